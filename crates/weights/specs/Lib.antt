@@ -1,0 +1,4 @@
+pub mod Kinds
+pub mod Parts
+pub mod Plains
+pub mod Paireds
