@@ -12,7 +12,7 @@ use Rattle.std.proofs.shelf.Signed.{ints}
 use Rattle.std.proofs.shelf.Tests.{and-parts, and-from, not-true}
 use Rattle.layouts.specs.Plans.{edge-cells, edges}
 use Rattle.dual.specs.Choice.{odd, pick, chosen}
-use Rattle.dual.specs.Bound.{lowered, slacks, trial, leasts, cost, at, codeword, evenly, choices, lagrangian}
+use Rattle.dual.specs.Bound.{lowered, slacks, trial-word, leasts, cost, at, codeword, evenly, choices, lagrangian}
 use Rattle.dual.specs.Laws.{Floor-is-least-lagrangian, Floor-below-codewords}
 use Rattle.dual.proofs.Picks.{pick-lowered, pick-split, least-any, disagreement-is}
 use Rattle.dual.proofs.Row.{cheapest}
@@ -72,7 +72,7 @@ own-even (row ∷ rows) x =
 
 pub least-lagrangian : Floor-is-least-lagrangian
 least-lagrangian rows costs ms lm =
-    let lx : length (trial rows costs ms) ≡ length costs = length-map _ _ ∙ length-slacks (edge-cells rows) ms costs in
+    let lx : length (trial-word rows costs ms) ≡ length costs = length-map _ _ ∙ length-slacks (edge-cells rows) ms costs in
     let lz = length-choices rows ms lm in
     record {
       lower = λ x z kx kz e.
@@ -84,7 +84,7 @@ least-lagrangian rows costs ms lm =
       sets = lz;
       even = choices-even rows ms lm;
       reached =
-          let s = split rows costs ms (trial rows costs ms) (choices rows ms) lm lx lz in
+          let s = split rows costs ms (trial-word rows costs ms) (choices rows ms) lm lx lz in
           let l = leasts-is-pick rows ms lm in
           omega (arith, ints);
     }

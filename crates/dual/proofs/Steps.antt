@@ -14,8 +14,8 @@ use Rattle.std.specs.Iters.{folded}
 use Rattle.std.specs.declared.option.Option.{Option}
 use Rattle.std.specs.declared.option.Option.the-variants.{Some, None}
 use Rattle.layouts.specs.Plans.{edge-cells, edges, row-at}
-use Rattle.dual.specs.Choice.{negative, negatives, xor, odd, taken, pick, Spot, nearer, look, nearest, cheaper, toggle, chosen}
-use Rattle.dual.specs.Bound.{lowered, slacks, leasts, meets, codeword, choices}
+use Rattle.dual.specs.Choice.{negative, negatives, xor, odd, taken, pick, Spot, nearer, look, nearest, cheaper, toggle, chosen, least}
+use Rattle.dual.specs.Bound.{lowered, slacks, leasts, row-leasts, meets, codeword, choices}
 use Rattle.dual.specs.Laws.{Nearest}
 use Rattle.dual.proofs.Picks.{pick-split}
 use Rattle.dual.proofs.Search.{found}
@@ -126,6 +126,17 @@ pub choices-more : (rows : List (List ℕ)) (ms : List ℤ) (r : ℕ) → r < le
 choices-more rows ms r h =
     ap (λ rs. choices rs ms) (take-more rows r [] h) ∙ choices-append (take r rows) (row-at rows r ∷ []) ms
     ∙ ap (λ bs. choices (take r rows) ms ++ bs) (append-nil _)
+
+row-leasts-append : (front back : List (List ℕ)) (ms : List ℤ) → row-leasts (front ++ back) ms ≡ row-leasts front ms ++ row-leasts back (drop (edges front) ms)
+row-leasts-append [] back ms = refl
+row-leasts-append (row ∷ front) back ms =
+    let n : ℕ = length row in
+    let ih = row-leasts-append front back (drop n ms) in
+    let past : drop (edges front) (drop n ms) ≡ drop (edges (row ∷ front)) ms = drop-drop (edges front) n ms ∙ ap (λ j. drop j ms) (sym (length-append row (edge-cells front))) in
+    cc
+
+pub row-leasts-more : (rows : List (List ℕ)) (ms : List ℤ) (r : ℕ) → r < length rows → row-leasts (take (r + 1) rows) ms ≡ row-leasts (take r rows) ms ++ least (take (length (row-at rows r)) (drop (edges (take r rows)) ms)) ∷ []
+row-leasts-more rows ms r h = ap (λ rs. row-leasts rs ms) (take-more rows r [] h) ∙ row-leasts-append (take r rows) (row-at rows r ∷ []) ms
 
 pub codeword-append : (front back : List (List ℕ)) (x : List Bool) → codeword (front ++ back) x ≡ (codeword front x && codeword back x)
 codeword-append [] back x = refl

@@ -18,12 +18,17 @@ slacks (e ∷ es) [] cs = cs
 slacks (e ∷ es) (m ∷ ms) cs = slacks es ms (lowered cs e m)
 
 -- the trial word is dark where the slack is negative
-abbrev pub trial : List (List ℕ) → List ℤ → List ℤ → List Bool
-trial rows costs ms = negatives (slacks (edge-cells rows) ms costs)
+abbrev pub trial-word : List (List ℕ) → List ℤ → List ℤ → List Bool
+trial-word rows costs ms = negatives (slacks (edge-cells rows) ms costs)
 
 -- the sum of the negative entries
 abbrev pub low : List ℤ → ℤ
 low cs = pick (negatives cs) cs
+
+-- the least sum of each row
+abbrev pub row-leasts : List (List ℕ) → List ℤ → List ℤ
+row-leasts [] ms = []
+row-leasts (row ∷ rows) ms = least (take (length row) ms) ∷ row-leasts rows (drop (length row) ms)
 
 -- the least sums of all rows together
 abbrev pub leasts : List (List ℕ) → List ℤ → ℤ

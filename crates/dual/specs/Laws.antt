@@ -2,7 +2,6 @@
 use mathlib.Core.Path.{_≡_}
 use mathlib.Core.Bool.{Bool, true, false}
 use mathlib.Core.List.{List}
-use mathlib.Core.Logic.{_⊎_}
 use Prim.Native.Nat.{ℕ, _≤_, _<_}
 use lib.IntN.{ℤ, pos, natAbs}
 use lib.Signed.{_≤ℤ_}
@@ -11,7 +10,7 @@ use Rattle.std.specs.declared.option.Option.{Option}
 use Rattle.std.specs.declared.option.Option.the-variants.{Some, None}
 use Rattle.layouts.specs.Plans.{edges}
 use Rattle.dual.specs.Choice.{negative, negatives, odd, pick, Spot, nearest, chosen, least}
-use Rattle.dual.specs.Bound.{trial, floor, cost, codeword, evenly, choices, lagrangian}
+use Rattle.dual.specs.Bound.{trial-word, floor, cost, codeword, evenly, choices, lagrangian}
 
 -- what holds of each entry
 abbrev pub Each : (ℤ → Type 0) → List ℤ → Type 0
@@ -49,10 +48,10 @@ Choice-is-cheapest = (ms : List ℤ) → Cheapest-even-set ms
 -- over all words and all choices of an even set for each row, the floor is the least value of the Lagrangian, reached by the trial word and the chosen sets
 pub record Least-lagrangian (rows : List (List ℕ)) (costs ms : List ℤ) : Type 0 where
   pub lower : (x z : List Bool) → length x ≡ length costs → length z ≡ edges rows → evenly rows z ≡ true → floor rows costs ms ≤ℤ lagrangian rows costs ms x z
-  pub word : length (trial rows costs ms) ≡ length costs
+  pub word : length (trial-word rows costs ms) ≡ length costs
   pub sets : length (choices rows ms) ≡ edges rows
   pub even : evenly rows (choices rows ms) ≡ true
-  pub reached : lagrangian rows costs ms (trial rows costs ms) (choices rows ms) ≡ floor rows costs ms
+  pub reached : lagrangian rows costs ms (trial-word rows costs ms) (choices rows ms) ≡ floor rows costs ms
 
 abbrev pub Floor-is-least-lagrangian : Type 0
 Floor-is-least-lagrangian = (rows : List (List ℕ)) (costs ms : List ℤ) → length ms ≡ edges rows → Least-lagrangian rows costs ms
