@@ -13,7 +13,7 @@ use Rattle.std.proofs.shelf.Tests.{cond-both}
 use Rattle.std.specs.Iters.{folded}
 use Rattle.std.specs.declared.option.Option.{Option}
 use Rattle.std.specs.declared.option.Option.the-variants.{Some, None}
-use Rattle.layouts.specs.Plans.{edge-cells, edges, row-at}
+use Rattle.layouts.specs.Plans.{edge-cells, edges, edges-append, row-at}
 use Rattle.dual.specs.Choice.{negative, negatives, xor, odd, taken, pick, Spot, nearer, look, nearest, cheaper, toggle, chosen, least}
 use Rattle.dual.specs.Bound.{lowered, slacks, leasts, row-leasts, meets, codeword, choices}
 use Rattle.dual.specs.Laws.{Nearest}
@@ -104,10 +104,6 @@ pick-push bs ms i h k =
     omega (arith, ints)
 
 -- ---- rows one after the other: a walk that has done some rows has the edges, choices and tests of these
-pub edges-append : (front back : List (List ℕ)) → edges (front ++ back) ≡ edges front + edges back
-edges-append [] back = omega arith
-edges-append (row ∷ front) back = let ih = edges-append front back in simp length-append (omega arith)
-
 pub edges-more : (rows : List (List ℕ)) (r : ℕ) → r < length rows → edges (take (r + 1) rows) ≡ edges (take r rows) + length (row-at rows r)
 edges-more rows r h = ap edges (take-more rows r [] h) ∙ edges-append (take r rows) (row-at rows r ∷ []) ∙ ap (λ n. edges (take r rows) + n) (ap length (append-nil (row-at rows r)))
 

@@ -3,8 +3,10 @@ use mathlib.Core.Path.{_≡_}
 use mathlib.Core.List.{List, [], _∷_, _++_}
 use mathlib.Core.Bool.{cond}
 use Prim.Native.Nat.{ℕ, _+_, _≤_, _<_}
+use native.Mathlib.Omega.{arith}
 use lib.Dec.{ltb}
 use lib.ListN.{length, getD}
+use Rattle.std.proofs.shelf.Lists.{length-append}
 use Rattle.std.specs.declared.option.Option.{Option}
 use Rattle.std.specs.declared.option.Option.the-variants.{Some, None}
 
@@ -15,6 +17,12 @@ edge-cells (row ∷ rows) = row ++ edge-cells rows
 
 abbrev pub edges : List (List ℕ) → ℕ
 edges rows = length (edge-cells rows)
+
+pub edges-append : (xs ys : List (List ℕ)) → edges (xs ++ ys) ≡ edges xs + edges ys
+edges-append [] ys = omega arith
+edges-append (x ∷ xs) ys =
+    let e = edges-append xs ys in
+    omega (arith, length-append x (edge-cells (xs ++ ys)), length-append x (edge-cells xs))
 
 abbrev pub row-at : List (List ℕ) → ℕ → List ℕ
 row-at rows r = getD rows r []

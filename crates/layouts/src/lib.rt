@@ -1,8 +1,18 @@
 // Layouts of a label: which cells each parity row joins.
-ghost use mathlib.Core.Path.{_≡_};
 ghost use lib.ListN.{length};
-ghost use Rattle.std.specs.Options.{mapped};
+ghost use mathlib.Core.Path.{_≡_};
 ghost use Rattle.layouts.specs.Plans.{Plan, edges, row-length, cell-at};
+ghost use Rattle.std.specs.Options.{mapped};
+
+mod grid;
+mod listed;
+#[cfg(test)]
+mod tests;
+
+pub use grid::Grid;
+pub use grid::GridLayout;
+pub use listed::Listed;
+pub use listed::ListedLayout;
 
 // The number of a row, from 0.
 #[derive(Clone, Copy, PartialEq, Eq, Debug)]

@@ -29,9 +29,9 @@ edge-below n (row ∷ rows) f k h =
     ⊎-elim
     (λ (lt : k < length row). let e = getD-append-left row (edge-cells rows) 0 k lt in let b = f 0 k (omega arith) lt in omega arith)
     (λ (ge : length row ≤ k).
-        let e = getD-append-right row (edge-cells rows) (length row) k 0 refl ge in
-        let b = edge-below n rows (λ r j hr hj. f (suc r) j (omega arith) hj) (k - length row) (omega arith) in
-        omega arith)
+    let e = getD-append-right row (edge-cells rows) (length row) k 0 refl ge in
+    let b = edge-below n rows (λ r j hr hj. f (suc r) j (omega arith) hj) (k - length row) (omega arith) in
+    omega arith)
     (cases-lt k (length row))
 
 pub cells-below : (p : Plan) (cells : List ℕ) (n : ℕ) → cells ≡ edge-cells (p .rows) → n ≡ p .cells → (k : ℕ) → k < length cells → getD cells k 0 < n

@@ -63,15 +63,15 @@ pub flipped-at : (t : Option ℕ) (s : List Bool) (place : ℕ) → place < leng
 flipped-at None s place h = grind arith
 flipped-at (Some i) s place h = ⊎-elim
     (λ (e : i ≡ place).
-        let put = getD-set-same s i (not (getD s i false)) false (omega arith) in
-        let same : getD s i false ≡ getD s place false = ap (λ k. getD s k false) e in
-        let at : getD (set s i (not (getD s i false))) i false ≡ getD (set s i (not (getD s i false))) place false = ap (λ k. getD (set s i (not (getD s i false))) k false) e in
-        let t = eq-eqb i place e in
-        grind arith)
+    let put = getD-set-same s i (not (getD s i false)) false (omega arith) in
+    let same : getD s i false ≡ getD s place false = ap (λ k. getD s k false) e in
+    let at : getD (set s i (not (getD s i false))) i false ≡ getD (set s i (not (getD s i false))) place false = ap (λ k. getD (set s i (not (getD s i false))) k false) e in
+    let t = eq-eqb i place e in
+    grind arith)
     (λ (e : i ≡ place → ⊥).
-        let kept = getD-set-other s i place (not (getD s i false)) false (λ q. e (sym q)) in
-        let f = ne-eqb i place e in
-        grind arith)
+    let kept = getD-set-other s i place (not (getD s i false)) false (λ q. e (sym q)) in
+    let f = ne-eqb i place e in
+    grind arith)
     (cases-eq i place)
 
 pub length-flipped : (t : Option ℕ) (s : List Bool) → length (flipped t s) ≡ length s

@@ -70,7 +70,7 @@ module _ {W : Type 0} (k : Kind W) where
       → m ≡ getD ws i m → old ≡ getD left e old → k .size m ≤ 2 ^ 18 → Exact k old m new (k .meaning old -ℤ k .meaning m)
       → total-size k left ≤ total → total + 2 ^ 18 ≤ 2 ^ 30
       → (slacks (drop (i + 1) es) (drop (i + 1) (meanings k ws)) (meanings k (set left e new)) ≡ slacks (drop i es) (drop i (meanings k ws)) (meanings k left))
-        × (total-size k (set left e new) ≤ total + 2 ^ 18)
+      × (total-size k (set left e new) ≤ total + 2 ^ 18)
   slack-step es ws left i e total m old new he hw ee hl em eo sm x tl tm =
       let lw : i < length (meanings k ws) = rw (length-map ws (k .meaning)) hw in
       let more = slacks-more es (meanings k ws) (meanings k left) i he lw in

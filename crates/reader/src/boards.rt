@@ -27,7 +27,12 @@ fn any_beyond<W: Weight>(list: &[W], limit: u32) -> bool
 }
 
 // The boards from which a floor is worked out, with an output of n entries.
-pub(crate) fn check_floor<L: Layout, W: Weight>(layout: &L, costs: &[W], multipliers: &[W], n: usize) -> Result<(), Refusal>
+pub(crate) fn check_floor<L: Layout, W: Weight>(
+    layout: &L,
+    costs: &[W],
+    multipliers: &[W],
+    n: usize,
+) -> Result<(), Refusal>
     ensures { λ r. ⌜ number-of r ≡ floor-refusal kind (plan (now (layout .entry))) (now (costs .entry)) (now (multipliers .entry)) n ⌝ }
 {
     let cells = layout.cells() as usize;
@@ -41,7 +46,12 @@ pub(crate) fn check_floor<L: Layout, W: Weight>(layout: &L, costs: &[W], multipl
 }
 
 // The multipliers from which choices are made, with outputs of m and n entries.
-pub(crate) fn check_choices<L: Layout, W: Weight>(layout: &L, multipliers: &[W], m: usize, n: usize) -> Result<(), Refusal>
+pub(crate) fn check_choices<L: Layout, W: Weight>(
+    layout: &L,
+    multipliers: &[W],
+    m: usize,
+    n: usize,
+) -> Result<(), Refusal>
     ensures { λ r. ⌜ number-of r ≡ choices-refusal kind (plan (now (layout .entry))) (now (multipliers .entry)) m n ⌝ }
 {
     let edges = layout.edges() as usize;

@@ -22,19 +22,36 @@ use refusals::Refusal;
 use weights::Weight;
 
 // The slacks of all cells. The layout is the one that the table copies; it is not asked.
-fn slacks_into<L: Layout, W: Weight>(layout: &L, table: &Table, costs: &[W], multipliers: &[W], out: &mut [W])
+fn slacks_into<L: Layout, W: Weight>(
+    layout: &L,
+    table: &Table,
+    costs: &[W],
+    multipliers: &[W],
+    out: &mut [W],
+)
     requires cells { ⌜ Cells (plan (now layout) .rows) (now table .cells) ⌝ }
     requires fit { ⌜ Fit kind (plan (now layout)) (now costs) (now multipliers) (length (now out)) ⌝ }
     ensures value { λ _. ⌜ meanings kind (now (out .exit)) ≡ slacks (edge-cells (plan (now (layout .entry)) .rows)) (meanings kind (now (multipliers .entry))) (meanings kind (now (costs .entry))) ⌝ }
     ensures size { λ _. ⌜ total-size kind (now (out .exit)) ≤ 2 ^ 23 + 2 ^ 28 ⌝ }
 {
     out.copy_from_slice(costs);
-    slacken(table.edge_cells(layout, multipliers.len()), multipliers, out);
+    slacken(
+        table.edge_cells(layout, multipliers.len()),
+        multipliers,
+        out,
+    );
 }
 
 // The floor of the multipliers, with the trial word and the choices of all rows. Every sum on the way is exact: the sizes
 // of all slacks add up to at most 128 * 2^16 + 1024 * 2^18, and those of all multipliers to 1024 * 2^18, together below 2^30.
-pub(crate) fn bound<L: Layout, W: Weight>(layout: &L, table: &Table, costs: &[W], multipliers: &[W], trial: &mut [u8], marks: &mut [u8]) -> W
+pub(crate) fn bound<L: Layout, W: Weight>(
+    layout: &L,
+    table: &Table,
+    costs: &[W],
+    multipliers: &[W],
+    trial: &mut [u8],
+    marks: &mut [u8],
+) -> W
     requires cells { ⌜ Cells (plan (now layout) .rows) (now table .cells) ⌝ }
     requires starts { ⌜ Starts (plan (now layout) .rows) (now table .starts) (now table .rows) ⌝ }
     requires fit { ⌜ Fit kind (plan (now layout)) (now costs) (now multipliers) (length (now trial)) ⌝ }
@@ -54,7 +71,12 @@ pub(crate) fn bound<L: Layout, W: Weight>(layout: &L, table: &Table, costs: &[W]
 
 // Works out the floor of the multipliers and writes the trial word, one byte of 0 or 1 a cell.
 // Declined boards leave the trial word as it was.
-pub fn floor<L: Layout, W: Weight>(layout: &L, costs: &[W], multipliers: &[W], trial: &mut [u8]) -> Result<W, Refusal>
+pub fn floor<L: Layout, W: Weight>(
+    layout: &L,
+    costs: &[W],
+    multipliers: &[W],
+    trial: &mut [u8],
+) -> Result<W, Refusal>
     ensures number { λ r. ⌜ number-of r ≡ floor-refusal kind (plan (now (layout .entry))) (now (costs .entry)) (now (multipliers .entry)) (length (now (trial .entry))) ⌝ }
     ensures value { λ r. ⌜ made r (λ w. kind .meaning w ≡ floor (plan (now (layout .entry)) .rows) (meanings kind (now (costs .entry))) (meanings kind (now (multipliers .entry)))) ⌝ }
     ensures trial { λ r. ⌜ made r (λ _. now (trial .exit) ≡ bytes (trial-word (plan (now (layout .entry)) .rows) (meanings kind (now (costs .entry))) (meanings kind (now (multipliers .entry))))) ⌝ }
@@ -63,11 +85,23 @@ pub fn floor<L: Layout, W: Weight>(layout: &L, costs: &[W], multipliers: &[W], t
     check_floor(layout, costs, multipliers, trial.len())?;
     let table = Table::of(layout);
     let mut marks = [0u8; 1024];
-    Ok(bound(layout, &table, costs, multipliers, trial, &mut marks[0..multipliers.len()]))
+    Ok(bound(
+        layout,
+        &table,
+        costs,
+        multipliers,
+        trial,
+        &mut marks[0..multipliers.len()],
+    ))
 }
 
 // Writes the slack of each cell: its cost minus its multipliers. Declined boards leave the output as it was.
-pub fn slacks<L: Layout, W: Weight>(layout: &L, costs: &[W], multipliers: &[W], out: &mut [W]) -> Result<(), Refusal>
+pub fn slacks<L: Layout, W: Weight>(
+    layout: &L,
+    costs: &[W],
+    multipliers: &[W],
+    out: &mut [W],
+) -> Result<(), Refusal>
     ensures number { λ r. ⌜ number-of r ≡ floor-refusal kind (plan (now (layout .entry))) (now (costs .entry)) (now (multipliers .entry)) (length (now (out .entry))) ⌝ }
     ensures value { λ r. ⌜ made r (λ _. meanings kind (now (out .exit)) ≡ slacks (edge-cells (plan (now (layout .entry)) .rows)) (meanings kind (now (multipliers .entry))) (meanings kind (now (costs .entry)))) ⌝ }
     ensures same { λ r. ⌜ refused r (λ _. now (out .exit) ≡ now (out .entry)) ⌝ }

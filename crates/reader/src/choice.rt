@@ -33,7 +33,12 @@ fn odd_negatives<W: Weight>(multipliers: &[W]) -> bool
 }
 
 // Of the spot so far and a new one of the same sign, the one nearer to 0; the earlier one at equality.
-fn nearer_of<W: Weight>(best: Option<(usize, W)>, place: usize, m: W, below: bool) -> Option<(usize, W)>
+fn nearer_of<W: Weight>(
+    best: Option<(usize, W)>,
+    place: usize,
+    m: W,
+    below: bool,
+) -> Option<(usize, W)>
     requires sign { ⌜ negative (kind .meaning m) ≡ below ⌝ }
     requires best { ⌜ OfSign kind below best ⌝ }
     ensures value { λ r. ⌜ mapped (spot kind) r ≡ nearer (mapped (spot kind) best) (place, natAbs (kind .meaning m)) ⌝ }
@@ -43,7 +48,11 @@ fn nearer_of<W: Weight>(best: Option<(usize, W)>, place: usize, m: W, below: boo
         None => Some((place, m)),
         Some((at, old)) => {
             let nearer = if below { old.below(m) } else { m.below(old) };
-            if nearer { Some((place, m)) } else { Some((at, old)) }
+            if nearer {
+                Some((place, m))
+            } else {
+                Some((at, old))
+            }
         },
     }
 }
@@ -73,7 +82,11 @@ fn cheaper<W: Weight>(d: Option<(usize, W)>, a: Option<(usize, W)>) -> Option<us
         (None, Some((add, _))) => Some(add),
         (Some((drop, _)), None) => Some(drop),
         (Some((drop, less)), Some((add, more))) => {
-            if more.below(W::zero().minus(less)) { Some(add) } else { Some(drop) }
+            if more.below(W::zero().minus(less)) {
+                Some(add)
+            } else {
+                Some(drop)
+            }
         },
     }
 }
@@ -89,7 +102,11 @@ pub(crate) fn turned_place<W: Weight>(multipliers: &[W]) -> Option<usize>
 pub fn choose<W: Weight>(multipliers: &[W]) -> RowChoice
     ensures { λ r. ⌜ r .toggled ≡ toggle (meanings kind (now (multipliers .entry))) ⌝ }
 {
-    let toggled = if odd_negatives(multipliers) { turned_place(multipliers) } else { None };
+    let toggled = if odd_negatives(multipliers) {
+        turned_place(multipliers)
+    } else {
+        None
+    };
     RowChoice { toggled }
 }
 

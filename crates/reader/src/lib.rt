@@ -1,14 +1,17 @@
 // Reading a label: the row choice, the floor, and the steps by which multipliers move.
 mod boards;
-mod choice;
-mod row_choices;
 mod bounds;
+mod choice;
 mod passes;
+mod row_choices;
 mod steps;
 mod table;
-pub use choice::choose;
-pub use choice::RowChoice;
-pub use row_choices::choices;
+#[cfg(test)]
+mod tests;
+
 pub use bounds::floor;
 pub use bounds::slacks;
+pub use choice::RowChoice;
+pub use choice::choose;
+pub use row_choices::choices;
 pub use steps::StepRule;

@@ -81,7 +81,12 @@ pub(crate) fn sum_marked<W: Weight>(marks: &[u8], list: &[W]) -> W
 }
 
 // Marks the choices of all rows, one byte an edge. The layout is the one that the table copies; it is not asked.
-pub(crate) fn mark_choices<L: Layout, W: Weight>(layout: &L, table: &Table, multipliers: &[W], marks: &mut [u8])
+pub(crate) fn mark_choices<L: Layout, W: Weight>(
+    layout: &L,
+    table: &Table,
+    multipliers: &[W],
+    marks: &mut [u8],
+)
     requires starts { ⌜ Starts (plan (now layout) .rows) (now table .starts) (now table .rows) ⌝ }
     requires edges { ⌜ (length (now multipliers) ≡ edges (plan (now layout) .rows)) × (length (now marks) ≡ edges (plan (now layout) .rows)) ⌝ }
     ensures { λ _. ⌜ now (marks .exit) ≡ bytes (choices (plan (now (layout .entry)) .rows) (meanings kind (now (multipliers .entry)))) ⌝ }

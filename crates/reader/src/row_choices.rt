@@ -31,7 +31,13 @@ fn least_sum<W: Weight>(multipliers: &[W], marks: &mut [u8]) -> W
     sum_marked(marks, multipliers)
 }
 
-fn choices_into<L: Layout, W: Weight>(layout: &L, table: &Table, multipliers: &[W], marks: &mut [u8], sums: &mut [W])
+fn choices_into<L: Layout, W: Weight>(
+    layout: &L,
+    table: &Table,
+    multipliers: &[W],
+    marks: &mut [u8],
+    sums: &mut [W],
+)
     requires starts { ⌜ Starts (plan (now layout) .rows) (now table .starts) (now table .rows) ⌝ }
     requires edges { ⌜ (length (now multipliers) ≡ edges (plan (now layout) .rows)) × (length (now marks) ≡ edges (plan (now layout) .rows)) ⌝ }
     requires rows { ⌜ length (now sums) ≡ length (plan (now layout) .rows) ⌝ }
@@ -47,7 +53,12 @@ fn choices_into<L: Layout, W: Weight>(layout: &L, table: &Table, multipliers: &[
 
 // Writes the choices of all rows, one byte an edge, 1 where the edge is chosen, and the least sum of each row.
 // Declined boards leave both outputs as they were.
-pub fn choices<L: Layout, W: Weight>(layout: &L, multipliers: &[W], marks: &mut [u8], sums: &mut [W]) -> Result<(), Refusal>
+pub fn choices<L: Layout, W: Weight>(
+    layout: &L,
+    multipliers: &[W],
+    marks: &mut [u8],
+    sums: &mut [W],
+) -> Result<(), Refusal>
     ensures number { λ r. ⌜ number-of r ≡ choices-refusal kind (plan (now (layout .entry))) (now (multipliers .entry)) (length (now (marks .entry))) (length (now (sums .entry))) ⌝ }
     ensures marks { λ r. ⌜ made r (λ _. now (marks .exit) ≡ bytes (choices (plan (now (layout .entry)) .rows) (meanings kind (now (multipliers .entry))))) ⌝ }
     ensures sums { λ r. ⌜ made r (λ _. meanings kind (now (sums .exit)) ≡ row-leasts (plan (now (layout .entry)) .rows) (meanings kind (now (multipliers .entry)))) ⌝ }

@@ -44,7 +44,11 @@ impl Table {
             at = copy_row(layout, r, &mut cells, at);
         }
         starts[rows as usize] = at;
-        Table { cells, starts, rows }
+        Table {
+            cells,
+            starts,
+            rows,
+        }
     }
 
     // The first edge of a row, and the one behind its last. The layout is the one that the table copies; it is not asked.

@@ -83,25 +83,33 @@ impl Refusal {
     }
 
     // What is wrong, as a sentence for a person.
-    pub fn sentence(self) -> &'static str {
+    fn sentence(self) -> &'static str {
         match self {
-            Refusal::LayoutLimits => "a layout has 1 to 128 cells, at most 96 rows and at most 1,024 cell entries",
-            Refusal::RowEnds => "row ends rise strictly from above 0, and the last is the number of cell entries",
-            Refusal::RowEntries => "a cell entry is below the cell count and above the one before it in its row",
+            Refusal::LayoutLimits =>
+                "a layout has 1 to 128 cells, at most 96 rows and at most 1,024 cell entries",
+            Refusal::RowEnds =>
+                "row ends rise strictly from above 0, and the last is the number of cell entries",
+            Refusal::RowEntries =>
+                "a cell entry is below the cell count and above the one before it in its row",
             Refusal::GridSide => "a grid's sides are 2 to 11",
             Refusal::SumsFull => "at most 8 sums of rows can be added, and at most 96 rows in all",
-            Refusal::SumRows => "a sum names at least one row, all rows are there, and they rise strictly",
-            Refusal::SumCells => "a sum has at least one cell, and there are at most 1,024 edges in all",
+            Refusal::SumRows =>
+                "a sum names at least one row, all rows are there, and they rise strictly",
+            Refusal::SumCells =>
+                "a sum has at least one cell, and there are at most 1,024 edges in all",
             Refusal::StepRange => "a step is 1 to 4,096",
             Refusal::BoardLength => "a board has the wrong length",
-            Refusal::BoardValue => "a cost is beyond size 65,536, a multiplier beyond 262,144, or a word byte above 1",
+            Refusal::BoardValue =>
+                "a cost is beyond size 65,536, a multiplier beyond 262,144, or a word byte above 1",
             Refusal::RunCount => "a run makes 1 to 4,096 rounds",
-            Refusal::OfferedMultipliers => "multipliers are one an edge and of size at most 262,144",
+            Refusal::OfferedMultipliers =>
+                "multipliers are one an edge and of size at most 262,144",
             Refusal::GivenWord => "a word has one bit, 0 or 1, for each cell",
             Refusal::RowUnmet => "the word does not meet every row",
             Refusal::TicketHead => "the ticket's head is short, or its mark is wrong",
             Refusal::TicketCounts => "the ticket is of another kind or layout",
-            Refusal::TicketForm => "the ticket has a wrong mark, length, unused bit or size after its head",
+            Refusal::TicketForm =>
+                "the ticket has a wrong mark, length, unused bit or size after its head",
             Refusal::TicketFloor => "the ticket's multipliers do not prove its word",
             Refusal::NotMet => "the reading is not met",
             Refusal::OutputShort => "the output is too short",
@@ -116,5 +124,23 @@ pub impl fmt::Display for Refusal as RefusalDisplay {
         let number = self.number();
         let sentence = self.sentence();
         write!(f, "refused {number}: {sentence}")
+    }
+}
+
+#[cfg(test)]
+mod tests {
+    use super::Refusal;
+    use super::RefusalDisplay;
+    use std::test::*;
+
+    #[test]
+    fn a_refusal_prints_its_number_and_sentence(rt: LibcRuntime) -> Result<(), Fail> {
+        let first = format!(rt.alloc(), "{}", Refusal::LayoutLimits)?;
+        check(
+            first.as_str()
+                == "refused 1: a layout has 1 to 128 cells, at most 96 rows and at most 1,024 cell entries",
+        )?;
+        let last = format!(rt.alloc(), "{}", Refusal::WorkLength)?;
+        check(last.as_str() == "refused 22: the work list is not one weight an edge")
     }
 }

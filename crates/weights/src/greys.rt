@@ -10,12 +10,12 @@ ghost use Rattle.refusals.specs.Numbers.{number-of};
 ghost use Rattle.weights.specs.Parts.{grey-cost};
 ghost use Rattle.weights.specs.Plains.{plain-cost};
 ghost use Rattle.weights.specs.Paireds.{paired-cost};
-use crate::part;
 use crate::Paired;
 use crate::PairedWeight;
 use crate::Plain;
 use crate::PlainWeight;
 use crate::Weight;
+use crate::part;
 use refusals::Refusal;
 
 // A kind whose costs come from greys.

@@ -3,17 +3,18 @@ ghost use mathlib.Core.Path.{_≡_};
 ghost use lib.IntN.{pos, _+ℤ_, _-ℤ_};
 ghost use lib.Signed.{ltZ};
 ghost use Rattle.weights.specs.Kinds.{Kind, Exact, Roomy};
+
 mod greys;
 mod paired;
 mod part;
 mod plain;
 #[cfg(test)]
 mod tests;
-pub use greys::convert;
+
 pub use greys::GreyCost;
 pub use greys::PairedGreyCost;
 pub use greys::PlainGreyCost;
-
+pub use greys::convert;
 pub use paired::Paired;
 pub use paired::PairedDebug;
 pub use paired::PairedPartialEq;

@@ -4,7 +4,9 @@ ghost use Prim.Native.Nat.{_≤_, _^_};
 ghost use lib.IntN.{natAbs};
 ghost use Rattle.weights.specs.Parts.{cut, joined};
 use super::part;
+
 mod weight;
+
 pub use weight::PairedWeight;
 
 #[derive(Clone, Copy, PartialEq, Eq, Debug)]

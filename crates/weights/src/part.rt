@@ -38,7 +38,11 @@ pub(crate) fn moved(a: i32, step: u32, up: bool) -> i32
     ensures bound { λ r. ⌜ natAbs r ≤ 2 ^ 18 ⌝ }
 {
     let by = i64::from(step);
-    let to = if up { i64::from(a) + by } else { i64::from(a) - by };
+    let to = if up {
+        i64::from(a) + by
+    } else {
+        i64::from(a) - by
+    };
     cut(to, MOVED_LIMIT)
 }
 

@@ -1,5 +1,4 @@
 // Both ends of each cut, from both sides, and the ends of the grey scale.
-use crate::convert;
 use crate::Paired;
 use crate::PairedDebug;
 use crate::PairedGreyCost;
@@ -11,6 +10,7 @@ use crate::PlainGreyCost;
 use crate::PlainPartialEq;
 use crate::PlainWeight;
 use crate::Weight;
+use crate::convert;
 use refusals::Refusal;
 use refusals::RefusalDebug;
 use refusals::RefusalPartialEq;
@@ -20,11 +20,21 @@ const TOP: i64 = 1 << 30;
 
 #[test]
 fn making_cuts_at_the_limit() -> Result<(), Fail> {
-    let cases: [(i64, i64); 6] = [(TOP - 1, TOP - 1), (TOP, TOP), (TOP + 1, TOP), (1 - TOP, 1 - TOP), (-TOP, -TOP), (-TOP - 1, -TOP)];
+    let cases: [(i64, i64); 6] = [
+        (TOP - 1, TOP - 1),
+        (TOP, TOP),
+        (TOP + 1, TOP),
+        (1 - TOP, 1 - TOP),
+        (-TOP, -TOP),
+        (-TOP - 1, -TOP),
+    ];
     for (given, made) in cases {
         check_eq(i64::from(Plain::new(given).value()), made)?;
         let pair = Paired::new(given, -given);
-        check_eq((i64::from(pair.grey()), i64::from(pair.dark())), (made, -made))?;
+        check_eq(
+            (i64::from(pair.grey()), i64::from(pair.dark())),
+            (made, -made),
+        )?;
     }
     check_eq(Plain::new(i64::MIN).size(), 1 << 30)
 }
@@ -55,7 +65,10 @@ fn moves_cut_at_their_own_limit() -> Result<(), Fail> {
     ];
     for (from, up, to) in cases {
         check_eq(Plain::new(from).moved(4096, up), Plain::new(to))?;
-        check_eq(Paired::new(from, 0).moved(4096, up).grey(), Plain::new(to).value())?;
+        check_eq(
+            Paired::new(from, 0).moved(4096, up).grey(),
+            Plain::new(to).value(),
+        )?;
     }
     check_eq(Plain::new(TOP).moved(1, false), Plain::new(limit))
 }

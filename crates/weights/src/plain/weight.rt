@@ -5,8 +5,8 @@ ghost use lib.IntN.{pos, _+ℤ_, _-ℤ_};
 ghost use Rattle.weights.specs.Kinds.{Exact};
 ghost use Rattle.weights.specs.Parts.{cut, stepped};
 ghost use Rattle.weights.specs.Plains.{plain-kind};
-use super::part;
 use super::Plain;
+use super::part;
 use crate::Weight;
 
 pub impl Weight for Plain as PlainWeight {

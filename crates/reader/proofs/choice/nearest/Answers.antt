@@ -24,14 +24,14 @@ loop-i-again g c =
     elim (c .if-is-negative-below .came) [
       | then-is-negative-below w ↦ (
         nearest-takes k (c .args .below) (c .args .multipliers .now) (c .loop-i .i) m (c .loop-i .best) (c .if-is-negative-below .best) (c .loop-i-test .taken)
-        (c .index-multipliers-i .is) (of-sign _ _ _ (c .is-negative .ensures) (w .if-is-negative-below .taken)) (c .loop-i .inv .0)
-        (ap (mapped (spot k)) (w .best-is) ∙ w .nearer-of-best .ensures .value),
+            (c .index-multipliers-i .is) (of-sign _ _ _ (c .is-negative .ensures) (w .if-is-negative-below .taken)) (c .loop-i .inv .0)
+            (ap (mapped (spot k)) (w .best-is) ∙ w .nearer-of-best .ensures .value),
         subst (OfSign k (c .args .below)) (sym (w .best-is)) (w .nearer-of-best .ensures .sign),
       )
       | else-is-negative-below w ↦
           let same = ap (mapped (spot k)) (w .best-is) in
           let pass = nearest-passes k (c .args .below) (c .args .multipliers .now) (c .loop-i .i) m (c .loop-i .best) (c .loop-i-test .taken)
-              (c .index-multipliers-i .is) (of-other-sign _ _ _ (c .is-negative .ensures) (w .if-is-negative-below .left)) (c .loop-i .inv .0) in
+          (c .index-multipliers-i .is) (of-other-sign _ _ _ (c .is-negative .ensures) (w .if-is-negative-below .left)) (c .loop-i .inv .0) in
           (cc, subst (OfSign k (c .args .below)) (sym (w .best-is)) (c .loop-i .inv .1))
     ]
 

@@ -19,7 +19,7 @@ loop-i-again g c =
     let hl : getD (c .args .cells .now) i 0 < length (c .loop-i .left) = omega (arith, c .pre .inside i he, c .loop-i .kept .left) in
     let sm : k .size m ≤ 2 ^ 18 = subst (λ w. k .size w ≤ 2 ^ 18) (sym (c .index-multipliers-i .is)) (c .pre .small i m hm) in
     let step = slack-step k (c .args .cells .now) (c .args .multipliers .now) (c .loop-i .left) i (getD (c .args .cells .now) i 0) (2 ^ 23 + i * 2 ^ 18) m old (c .minus .result)
-        he hm refl hl (c .index-multipliers-i .is) (c .index-left-cell .is) sm (c .minus .ensures .difference) (c .loop-i .inv .1) (omega (arith, c .pre .few)) in
+    he hm refl hl (c .index-multipliers-i .is) (c .index-left-cell .is) sm (c .minus .ensures .difference) (c .loop-i .inv .1) (omega (arith, c .pre .few)) in
     (step .0 ∙ c .loop-i .inv .0, omega (arith, step .1))
 
 pub returns : need.returns

@@ -24,10 +24,9 @@ loop-r-again g c =
     let end = c .span-start .result .1 in
     let h : c .loop-r .r < length rows = omega (arith, c .pre .starts .all) in
     let hs : c .loop-r .r < length (c .loop-r .sums) = omega (arith, c .pre .starts .all, c .pre .rows, c .loop-r .kept .sums) in
-    let l : length (c .least-sum .last .marks) ≡ end - start = search needs in
-    (
+    let l : length (c .least-sum .last .marks) ≡ end - start = search needs in (
       row-marked k rows (c .args .multipliers .now) (c .loop-r .marks) (c .least-sum .last .marks) (c .loop-r .r) start end h (c .span-start .ensures)
-      (c .loop-r .kept .marks ∙ c .pre .edges .1) (c .least-sum .ensures .marks) l (c .loop-r .inv .0),
+          (c .loop-r .kept .marks ∙ c .pre .edges .1) (c .least-sum .ensures .marks) l (c .loop-r .inv .0),
       row-summed k rows (c .args .multipliers .now) (c .loop-r .sums) (c .least-sum .result) (c .loop-r .r) start end h hs (c .span-start .ensures) (c .least-sum .ensures .sum) (c .loop-r .inv .1),
     )
 

@@ -10,5 +10,5 @@ use Rattle.reader.proofs.row_choices.choices_into.Given as given
 abbrev pub Inv-loop-r : given.InvT-loop-r
 Inv-loop-r g l =
     (take (edges (take (l .r) (g .L·Layout .plan (l .layout) .rows))) (l .marks)
-        ≡ bytes (choices (take (l .r) (g .L·Layout .plan (l .layout) .rows)) (meanings (g .W·Weight .kind) (l .multipliers))))
+    ≡ bytes (choices (take (l .r) (g .L·Layout .plan (l .layout) .rows)) (meanings (g .W·Weight .kind) (l .multipliers))))
     × (meanings (g .W·Weight .kind) (take (l .r) (l .sums)) ≡ row-leasts (take (l .r) (g .L·Layout .plan (l .layout) .rows)) (meanings (g .W·Weight .kind) (l .multipliers)))

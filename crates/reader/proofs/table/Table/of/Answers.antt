@@ -18,10 +18,13 @@ loop-r-again g c =
     let p = g .L·Layout .plan (c .args .layout .now) in
     let h : c .loop-r .r < length (p .rows) = omega arith in
     let t = edges-more (p .rows) (c .loop-r .r) h in
-    let f = edge-cells-more (p .rows) (c .loop-r .r) h in
-    (search needs, search needs,
-        starts-more (p .rows) (c .loop-r .starts) (c .loop-r .r) (c .loop-r .at) (omega arith) (c .loop-r .inv .0) (c .loop-r .inv .2),
-        search needs, search needs)
+    let f = edge-cells-more (p .rows) (c .loop-r .r) h in (
+      search needs,
+      search needs,
+      starts-more (p .rows) (c .loop-r .starts) (c .loop-r .r) (c .loop-r .at) (omega arith) (c .loop-r .inv .0) (c .loop-r .inv .2),
+      search needs,
+      search needs,
+    )
 
 pub returns : need.returns
 returns g c = search (needs, take-all, starts-more, length-set)

@@ -1,0 +1,72 @@
+// The costs and multipliers of one kind of weight.
+use crate::answers;
+use crate::command::Query;
+use crate::command::Setting;
+use crate::fault::Fault;
+use crate::fault::FaultFromAlloc;
+use crate::fault::FaultFromRefusal;
+use crate::weights_text::Shown;
+use crate::words;
+use layouts::Layout;
+use std::alloc::Global;
+
+#[derive(Drop)]
+pub struct Boards<W> {
+    costs: Vec<W>,
+    multipliers: Vec<W>,
+}
+
+impl<W: Shown> Boards<W> {
+    pub fn new(heap: Global) -> Boards<W> {
+        Boards {
+            costs: Vec::new(heap),
+            multipliers: Vec::new(heap),
+        }
+    }
+
+    pub fn set(&mut self, heap: Global, setting: Setting) -> Result<String, Fault> {
+        match setting {
+            Setting::Greys(greys) => self.set_costs(heap, priced(heap, &greys)?),
+            Setting::Costs(words) => self.set_costs(heap, words::values(heap, words)?),
+            Setting::Multipliers(words) => {
+                self.multipliers = words::values(heap, words)?;
+                Ok(answers::ok(heap)?)
+            }
+        }
+    }
+
+    fn set_costs(&mut self, heap: Global, costs: Vec<W>) -> Result<String, Fault> {
+        self.costs = costs;
+        Ok(answers::costs(heap, &self.costs)?)
+    }
+
+    pub fn ask<L: Layout>(&self, heap: Global, layout: &L, query: Query) -> Result<String, Fault> {
+        match query {
+            Query::Choices => self.choices(heap, layout),
+            Query::Floor => self.floor(heap, layout),
+        }
+    }
+
+    fn choices<L: Layout>(&self, heap: Global, layout: &L) -> Result<String, Fault> {
+        let mut marks = vec![in heap; 0u8; usize::from(layout.edges())]?;
+        let mut sums = vec![in heap; W::zero(); usize::from(layout.rows())]?;
+        reader::choices(layout, &self.multipliers, &mut marks, &mut sums)?;
+        Ok(answers::choices(heap, layout, &marks, &sums)?)
+    }
+
+    fn floor<L: Layout>(&self, heap: Global, layout: &L) -> Result<String, Fault> {
+        let cells = usize::from(layout.cells());
+        let mut slacks = vec![in heap; W::zero(); cells]?;
+        reader::slacks(layout, &self.costs, &self.multipliers, &mut slacks)?;
+        let mut trial = vec![in heap; 0u8; cells]?;
+        let floor = reader::floor(layout, &self.costs, &self.multipliers, &mut trial)?;
+        Ok(answers::floor(heap, &slacks, &trial, floor)?)
+    }
+}
+
+// The costs of greys.
+fn priced<W: Shown>(heap: Global, greys: &[u8]) -> Result<Vec<W>, Fault> {
+    let mut costs = vec![in heap; W::zero(); greys.len()]?;
+    weights::convert(greys, &mut costs)?;
+    Ok(costs)
+}
