@@ -29,6 +29,7 @@ pub use plain::PlainWeight;
 pub trait Weight: Copy {
     ghost kind: { Kind Self };
 
+    // Of memory alone: a local array of weights can be lent. Every type meets it by itself.
     law small: { Roomy Self·row };
 
     fn size(self) -> u32
