@@ -8,6 +8,7 @@ use crate::fault::FaultFromRefusal;
 use crate::weights_text::Shown;
 use crate::words;
 use layouts::Layout;
+use std::alloc::AllocError;
 use std::alloc::Global;
 
 #[derive(Drop)]
@@ -49,14 +50,14 @@ impl<W: Shown> Boards<W> {
 
     fn choices<L: Layout>(&self, heap: Global, layout: &L) -> Result<String, Fault> {
         let mut marks = vec![in heap; 0u8; usize::from(layout.edges())]?;
-        let mut sums = vec![in heap; W::zero(); usize::from(layout.rows())]?;
+        let mut sums = zeros(heap, usize::from(layout.rows()))?;
         reader::choices(layout, &self.multipliers, &mut marks, &mut sums)?;
         Ok(answers::choices(heap, layout, &marks, &sums)?)
     }
 
     fn floor<L: Layout>(&self, heap: Global, layout: &L) -> Result<String, Fault> {
         let cells = usize::from(layout.cells());
-        let mut slacks = vec![in heap; W::zero(); cells]?;
+        let mut slacks = zeros(heap, cells)?;
         reader::slacks(layout, &self.costs, &self.multipliers, &mut slacks)?;
         let mut trial = vec![in heap; 0u8; cells]?;
         let floor = reader::floor(layout, &self.costs, &self.multipliers, &mut trial)?;
@@ -66,7 +67,11 @@ impl<W: Shown> Boards<W> {
 
 // The costs of greys.
 fn priced<W: Shown>(heap: Global, greys: &[u8]) -> Result<Vec<W>, Fault> {
-    let mut costs = vec![in heap; W::zero(); greys.len()]?;
+    let mut costs = zeros(heap, greys.len())?;
     weights::convert(greys, &mut costs)?;
     Ok(costs)
+}
+
+fn zeros<W: Shown>(heap: Global, len: usize) -> Result<Vec<W>, AllocError> {
+    vec![in heap; W::zero(); len]
 }
