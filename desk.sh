@@ -13,7 +13,7 @@ if [ $# -gt 1 ] || { [ $# -eq 1 ] && [ ! -r "$1" ]; }; then
     exit 2
 fi
 if [ ! -x "$program" ] || [ -n "$(find "$top/crates" "$top/crates.txt" -newer "$program" -type f -print -quit)" ]; then
-    echo "proving and building the desk program ..." >&2
+    echo "proving and building the desk program, which takes some minutes the first time ..." >&2
     (cd "$top" && rt check desk >"$top/target.log" 2>&1) || { tail -n 20 "$top/target.log" >&2; rm -f "$top/target.log"; exit 1; }
     rm -f "$top/target.log"
 fi
