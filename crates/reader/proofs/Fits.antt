@@ -14,8 +14,10 @@ use Rattle.std.proofs.shelf.Ways.{tells}
 use Rattle.layouts.specs.Plans.{Plan, edges, edge-cells, row-at}
 use Rattle.weights.specs.Kinds.{Kind}
 use Rattle.reader.specs.Boards.{floor-refusal, choices-refusal, Fit}
-use Rattle.reader.specs.Sizes.{total-size, beyond, Within}
-use Rattle.reader.proofs.Sizes.{not-beyond, total-bound}
+use Rattle.weights.specs.Sizes.{beyond, Within}
+use Rattle.reader.specs.Sizes.{total-size}
+use Rattle.weights.proofs.Limits.{not-beyond}
+use Rattle.reader.proofs.Sizes.{total-bound}
 
 -- the front part of an array
 pub front-length : (n : ℕ) (xs : List ℕ) → n ≤ length xs → length (take (n - 0) (drop 0 xs)) ≡ n

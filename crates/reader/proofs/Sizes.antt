@@ -1,6 +1,6 @@
 -- Sizes of the weights of a list, together: while the whole stays within the limit, every sum is exact.
 use mathlib.Core.Path.{_≡_, refl, sym, ap, subst, _∙_}
-use mathlib.Core.Bool.{Bool, true, false, _||_}
+use mathlib.Core.Bool.{Bool, true, false}
 use mathlib.Core.List.{List, [], _∷_, _++_, map}
 use Prim.Native.Nat.{ℕ, zero, suc, _+_, _*_, _^_, _≤_, _<_}
 use native.Mathlib.Nat.{add-mul, one-mul}
@@ -15,7 +15,8 @@ use Rattle.weights.specs.Kinds.{Kind, Exact, meanings}
 use Rattle.dual.specs.Choice.{taken, pick}
 use Rattle.dual.specs.Bound.{lowered, slacks}
 use Rattle.dual.proofs.Steps.{slacks-more, pick-push}
-use Rattle.reader.specs.Sizes.{total-size, beyond, Within}
+use Rattle.weights.specs.Sizes.{Within}
+use Rattle.reader.specs.Sizes.{total-size}
 use Rattle.reader.specs.Words.{bits, marked}
 use Rattle.reader.proofs.Rows.{meaning-at}
 
@@ -55,15 +56,6 @@ module _ {W : Type 0} (k : Kind W) where
       let here = f 0 x (omega arith) in
       let m = add-mul 1 (length xs) limit in
       omega (arith, one-mul limit)
-
-  -- the test of the sizes, one weight further
-  pub beyond-more : (limit : ℕ) (ws : List W) (i : ℕ) (w : W) → i < length ws → w ≡ getD ws i w → beyond k limit (drop i ws) ≡ (ltb limit (k .size w) || beyond k limit (drop (i + 1) ws))
-  beyond-more limit ws i w h e = ap (beyond k limit) (drop-more ws i w h) ∙ ap (λ x. ltb limit (k .size x) || beyond k limit (drop (i + 1) ws)) (sym e)
-
-  pub not-beyond : (limit : ℕ) (ws : List W) → beyond k limit ws ≡ false → Within k limit ws
-  not-beyond limit [] e i d h = absurd (omega arith)
-  not-beyond limit (w ∷ ws) e zero d h = let l : ltb limit (k .size w) ≡ false = grind arith in ltb-false limit (k .size w) l
-  not-beyond limit (w ∷ ws) e (suc i) d h = not-beyond limit ws (grind arith) i d (omega arith)
 
   -- one edge more has taken its multiplier
   pub slack-step : (es : List ℕ) (ws left : List W) (i e total : ℕ) (m old new : W) → i < length es → i < length ws → e ≡ getD es i 0 → e < length left

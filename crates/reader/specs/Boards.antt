@@ -1,14 +1,13 @@
 -- Why boards are declined.
 use mathlib.Core.Path.{_≡_}
-use mathlib.Core.Bool.{Bool, cond, not, _||_}
+use mathlib.Core.Bool.{cond, not, _||_}
 use mathlib.Core.List.{List}
 use Prim.Native.Nat.{ℕ, _^_}
 use lib.Dec.{eqb}
 use lib.ListN.{length}
 use Rattle.layouts.specs.Plans.{Plan, edges}
 use Rattle.weights.specs.Kinds.{Kind}
-use Rattle.refusals.specs.Numbers.{or-else}
-use Rattle.reader.specs.Sizes.{beyond, Within}
+use Rattle.weights.specs.Sizes.{beyond, Within}
 
 -- 9: costs and an output of n entries are not one a cell, or multipliers not one an edge; 10: a cost beyond size 2^16, or a multiplier beyond 2^18
 abbrev pub floor-refusal : {W : Type 0} → Kind W → Plan → List W → List W → ℕ → ℕ

@@ -1,21 +1,9 @@
--- How large the weights of a list are, together and each.
-use mathlib.Core.Bool.{Bool, false, _||_}
+-- How large the weights of a list are together.
 use mathlib.Core.List.{List, [], _∷_}
-use Prim.Native.Nat.{ℕ, _+_, _≤_, _<_}
-use lib.Dec.{ltb}
-use lib.ListN.{length, getD}
+use Prim.Native.Nat.{ℕ, _+_}
 use Rattle.weights.specs.Kinds.{Kind}
 
 -- all sizes added up: while this is at most 2^30, every sum of weights of the list is exact
 abbrev pub total-size : {W : Type 0} → Kind W → List W → ℕ
 total-size k [] = 0
 total-size k (w ∷ ws) = k .size w + total-size k ws
-
--- whether a weight is larger than the limit
-abbrev pub beyond : {W : Type 0} → Kind W → ℕ → List W → Bool
-beyond k limit [] = false
-beyond k limit (w ∷ ws) = ltb limit (k .size w) || beyond k limit ws
-
--- no weight is larger than the limit
-abbrev pub Within : {W : Type 0} → Kind W → ℕ → List W → Type 0
-Within {W} k limit ws = (i : ℕ) (d : W) → i < length ws → k .size (getD ws i d) ≤ limit

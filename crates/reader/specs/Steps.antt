@@ -1,5 +1,5 @@
 -- The step of a round: the same each time, or the first step divided by the round's number.
-use mathlib.Core.Bool.{Bool, true, false, cond, _||_}
+use mathlib.Core.Bool.{cond, _||_}
 use Prim.Native.Nat.{ℕ, max, _/_}
 use lib.Dec.{ltb}
 

@@ -3,28 +3,12 @@ ghost use mathlib.Core.Path.{_≡_};
 ghost use lib.ListN.{length};
 ghost use Rattle.refusals.specs.Numbers.{number-of};
 ghost use Rattle.reader.specs.Boards.{floor-refusal, choices-refusal};
-ghost use Rattle.reader.specs.Sizes.{beyond};
 use layouts::Layout;
 use refusals::Refusal;
+use weights::COST_SIZE;
+use weights::MULTIPLIER_SIZE;
 use weights::Weight;
-
-// No cost is larger.
-const COST_SIZE: u32 = 1 << 16;
-
-// No multiplier is larger.
-const MULTIPLIER_SIZE: u32 = 1 << 18;
-
-// Whether a weight is larger than the limit.
-fn any_beyond<W: Weight>(list: &[W], limit: u32) -> bool
-    ensures { λ r. ⌜ r ≡ beyond kind limit (now (list .entry)) ⌝ }
-{
-    for w in list {
-        if w.size() > limit {
-            return true;
-        }
-    }
-    false
-}
+use weights::any_beyond;
 
 // The boards from which a floor is worked out, with an output of n entries.
 pub(crate) fn check_floor<L: Layout, W: Weight>(

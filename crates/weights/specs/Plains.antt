@@ -2,7 +2,7 @@
 
 use Prim.Native.Nat.{ℕ, _≤_, _^_}
 use native.Mathlib.Omega.{arith}
-use lib.IntN.{ℤ, pos, natAbs}
+use lib.IntN.{ℤ, natAbs}
 use Rattle.std.proofs.shelf.Signed.{ints, clamps}
 use Rattle.weights.specs.Kinds.{Kind}
 use Rattle.weights.specs.Parts.{cut, stepped, grey-cost}

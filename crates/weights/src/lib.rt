@@ -8,6 +8,7 @@ mod greys;
 mod paired;
 mod part;
 mod plain;
+mod sizes;
 #[cfg(test)]
 mod tests;
 
@@ -23,6 +24,9 @@ pub use plain::Plain;
 pub use plain::PlainDebug;
 pub use plain::PlainPartialEq;
 pub use plain::PlainWeight;
+pub use sizes::COST_SIZE;
+pub use sizes::MULTIPLIER_SIZE;
+pub use sizes::any_beyond;
 
 // What is known of every kind: `kind` says what a weight means and how large it is. A sum is known by its
 // meaning and size alone, and two weights of one meaning may differ.

@@ -6,9 +6,9 @@ use lib.Dec.{ltb}
 use lib.ListN.{drop}
 use Rattle.std.proofs.shelf.Lists.{drop-all}
 use Rattle.std.proofs.shelf.Tests.{lt-ltb, le-ltb}
-use Rattle.reader.specs.Sizes.{beyond}
-use Rattle.reader.proofs.Sizes.{beyond-more}
-use Rattle.reader.proofs.boards.any_beyond.Needs as need
+use Rattle.weights.specs.Sizes.{beyond}
+use Rattle.weights.proofs.Limits.{beyond-more}
+use Rattle.weights.proofs.sizes.any_beyond.Needs as need
 
 pub returns-then-size-limit : need.returns-then-size-limit
 returns-then-size-limit g c =

@@ -1,0 +1,6 @@
+pub mod Uncut
+pub mod Packing
+pub mod Writing
+pub mod Splices
+pub mod Forms
+pub mod Written

@@ -1,0 +1,6 @@
+pub mod Packs
+pub mod Codecs
+pub mod Tickets
+pub mod Parts
+pub mod PartLaws
+pub mod Kinds

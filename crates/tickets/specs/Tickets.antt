@@ -1,0 +1,112 @@
+-- The ticket, byte by byte: what is written, and what is read.
+use mathlib.Core.Bool.{Bool, cond, not, _&&_, _||_}
+use mathlib.Core.List.{List, [], _∷_, _++_}
+use Prim.Native.Nat.{ℕ, zero, suc, _+_, _*_, _/_, _%_, _^_, _≤_}
+use lib.Dec.{eqb, leb, ltb}
+use lib.ListN.{length, getD, take, drop}
+use Rattle.std.specs.Joined.{joined}
+use Rattle.std.specs.Options.{isSome}
+use Rattle.std.specs.declared.option.Option.{Option}
+use Rattle.std.specs.declared.option.Option.the-variants.{Some, None}
+use Rattle.layouts.specs.Plans.{Plan, edges as edges-of}
+use Rattle.weights.specs.Kinds.{Kind}
+use Rattle.weights.specs.Sizes.{beyond}
+use Rattle.tickets.specs.Packs.{Bits, no-bits, packed-length, packed, unpacked, clear}
+use Rattle.tickets.specs.Codecs.{Codec}
+
+-- what a head says of the layout
+pub record Counts : Type 0 where
+  pub cells : ℕ
+  pub rows : ℕ
+  pub edges : ℕ
+
+abbrev pub counts : Plan → Counts
+counts p = record { cells = p .cells; rows = length (p .rows); edges = edges-of (p .rows) }
+
+-- the two bytes with which each record begins
+abbrev pub head-mark : List ℕ
+head-mark = 0x4C ∷ 0x48 ∷ []
+
+abbrev pub word-mark : List ℕ
+word-mark = 0x4C ∷ 0x57 ∷ []
+
+abbrev pub multiplier-mark : List ℕ
+multiplier-mark = 0x4C ∷ 0x4D ∷ []
+
+-- the records, and the ticket
+abbrev pub head-bytes : ℕ → Counts → List ℕ
+head-bytes kind n = head-mark ++ (kind ∷ n .cells ∷ n .rows ∷ n .edges / 256 ∷ n .edges % 256 ∷ [])
+
+abbrev pub word-bytes : List ℕ → List ℕ
+word-bytes x = word-mark ++ packed x
+
+abbrev pub multiplier-bytes : {W : Type 0} → Codec W → W → List ℕ
+multiplier-bytes c m = multiplier-mark ++ c .put m
+
+unfoldable pub ticket : {W : Type 0} → Codec W → Counts → List ℕ → List W → List ℕ
+ticket c n x ms = head-bytes (c .kind-byte) n ++ (word-bytes x ++ joined (multiplier-bytes c) ms)
+
+-- 13: a word that is not one bit a cell; 12: multipliers not one an edge, or beyond size 2^18; 20: an output of fewer bytes than the ticket
+abbrev pub write-refusal : {W : Type 0} → Kind W → Codec W → Counts → List ℕ → List W → ℕ → ℕ
+write-refusal k c n x ms room =
+    cond (not (eqb (length x) (n .cells)) || no-bits x) 13
+    (cond (not (eqb (length ms) (n .edges)) || beyond k (2 ^ 18) ms) 12
+    (cond (ltb room (length (ticket c n x ms))) 20 0))
+
+-- what the writer stands on once nothing is declined
+pub record Writable {W : Type 0} (c : Codec W) (x : List ℕ) (ms : List W) (room : ℕ) : Type 0 where
+  pub bits : Bits x
+  pub few : length x ≤ 128
+  pub fits : 9 + packed-length (length x) + length ms * (2 + c .width) ≤ room
+
+-- whether bytes begin with a mark
+abbrev pub marked : List ℕ → List ℕ → Bool
+marked mark bs = leb 2 (length bs) && (eqb (getD bs 0 0) (getD mark 0 0) && eqb (getD bs 1 0) (getD mark 1 0))
+
+-- whether bytes begin with a head
+abbrev pub headed : List ℕ → Bool
+headed bs = leb 7 (length bs) && marked head-mark bs
+
+-- whether the head names the kind and the counts
+abbrev pub head-names : ℕ → Counts → List ℕ → Bool
+head-names kind n bs = eqb (getD bs 2 0) kind && (eqb (getD bs 3 0) (n .cells) && (eqb (getD bs 4 0) (n .rows) && eqb (256 * getD bs 5 0 + getD bs 6 0) (n .edges)))
+
+-- the packed word at the front of bytes: its mark, then the bytes of n cells, unused bits zero
+abbrev pub word-part : ℕ → List ℕ → Option (List ℕ)
+word-part n bs =
+    cond (marked word-mark bs && (leb (2 + packed-length n) (length bs) && clear n (take (packed-length n) (drop 2 bs))))
+    (Some (take (packed-length n) (drop 2 bs))) None
+
+-- a multiplier is at most 2^18 in size
+abbrev pub small : {W : Type 0} → Kind W → Option W → Option W
+small k (Some w) = cond (leb (k .size w) (2 ^ 18)) (Some w) None
+small k None = None
+
+-- the multiplier at the front of bytes
+abbrev pub multiplier-at : {W : Type 0} → Kind W → Codec W → List ℕ → Option W
+multiplier-at k c bs = cond (marked multiplier-mark bs && leb (2 + c .width) (length bs)) (small k (c .get (take (c .width) (drop 2 bs)))) None
+
+abbrev pub followed : {W : Type 0} → Option W → Option (List W) → Option (List W)
+followed (Some w) (Some ws) = Some (w ∷ ws)
+followed (Some w) None = None
+followed None o = None
+
+-- n multipliers, and nothing behind them
+abbrev pub multipliers-in : {W : Type 0} → Kind W → Codec W → ℕ → List ℕ → Option (List W)
+multipliers-in k c zero bs = cond (eqb (length bs) 0) (Some []) None
+multipliers-in k c (suc n) bs = followed (multiplier-at k c bs) (multipliers-in k c n (drop (2 + c .width) bs))
+
+-- the part of a ticket behind the head, and that behind the word
+abbrev pub behind-head : List ℕ → List ℕ
+behind-head bs = drop 7 bs
+
+abbrev pub behind-word : Counts → List ℕ → List ℕ
+behind-word n bs = drop (9 + packed-length (n .cells)) bs
+
+-- 22: a work list of m weights is not one an edge; 15: no head; 16: another kind or other counts; 17: not of the form behind the head
+abbrev pub read-refusal : {W : Type 0} → Kind W → Codec W → Counts → List ℕ → ℕ → ℕ
+read-refusal k c n bs m =
+    cond (not (eqb m (n .edges))) 22
+    (cond (not (headed bs)) 15
+    (cond (not (head-names (c .kind-byte) n bs)) 16
+    (cond (isSome (word-part (n .cells) (behind-head bs)) && isSome (multipliers-in k c (n .edges) (behind-word n bs))) 0 17)))

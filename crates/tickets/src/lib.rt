@@ -1,0 +1,41 @@
+// Tickets: the certificate that one desk hands another. A well-formed ticket certifies nothing by itself: it only says
+// of which word and multipliers somebody claims that they meet.
+ghost use mathlib.Core.Path.{_≡_};
+ghost use lib.ListN.{take};
+ghost use Rattle.std.specs.Options.{mapped};
+ghost use Rattle.std.specs.declared.option.Option.the-variants.{Some};
+ghost use Rattle.tickets.specs.Codecs.{Codec};
+use weights::Weight;
+
+mod kinds;
+mod marks;
+mod words;
+mod writer;
+
+pub use kinds::PairedTicketWeight;
+pub use kinds::PlainTicketWeight;
+pub use words::unpack;
+pub use writer::write;
+
+// A kind of weights that goes on tickets. Kind byte and width are fixed for the kind.
+pub trait TicketWeight: Weight {
+    ghost codec: { Codec Self };
+
+    // What is read back means what was written.
+    law meant: { (w : Self) → mapped (Self·Weight .kind .meaning) (codec .get (codec .put w)) ≡ Some (Self·Weight .kind .meaning w) };
+
+    fn kind_byte() -> u8
+        ensures { λ r. ⌜ r ≡ codec .kind-byte ⌝ };
+
+    // How many bytes a weight takes, at most 64.
+    fn width() -> u8
+        ensures { λ r. ⌜ r ≡ codec .width ⌝ };
+
+    // The bytes of this weight, at the front.
+    fn bytes(self) -> [u8; 64]
+        ensures { λ r. ⌜ take (codec .width) r ≡ codec .put self ⌝ };
+
+    // The one weight whose bytes these are, or none.
+    fn from_bytes(bytes: &[u8]) -> Option<Self>
+        ensures { λ r. ⌜ r ≡ codec .get (now (bytes .entry)) ⌝ };
+}
