@@ -44,7 +44,7 @@ marked-only a b (x ∷ y ∷ bs) e =
     cc
 
 -- a choice that came out as some value
-held : {X : Type 0} (b : Bool) (o : Option X) (w : X) → cond b o None ≡ Some w → (b ≡ true) × (o ≡ Some w)
+pub held : {X : Type 0} (b : Bool) (o : Option X) (w : X) → cond b o None ≡ Some w → (b ≡ true) × (o ≡ Some w)
 held true o w e = (refl, e)
 held false o w e = absurd (let z : _≡_ {A = ℕ} 0 1 = cc in omega arith)
 

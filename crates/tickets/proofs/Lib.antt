@@ -4,3 +4,5 @@ pub mod Writing
 pub mod Splices
 pub mod Forms
 pub mod Written
+pub mod Records
+pub mod Parted

@@ -4,3 +4,4 @@ pub mod Tickets
 pub mod Parts
 pub mod PartLaws
 pub mod Kinds
+pub mod Heads

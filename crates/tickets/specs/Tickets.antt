@@ -8,6 +8,7 @@ use Rattle.std.specs.Joined.{joined}
 use Rattle.std.specs.Options.{isSome}
 use Rattle.std.specs.declared.option.Option.{Option}
 use Rattle.std.specs.declared.option.Option.the-variants.{Some, None}
+use Rattle.refusals.specs.Numbers.{or-else}
 use Rattle.layouts.specs.Plans.{Plan, edges as edges-of}
 use Rattle.weights.specs.Kinds.{Kind}
 use Rattle.weights.specs.Sizes.{beyond}
@@ -96,17 +97,33 @@ abbrev pub multipliers-in : {W : Type 0} → Kind W → Codec W → ℕ → List
 multipliers-in k c zero bs = cond (eqb (length bs) 0) (Some []) None
 multipliers-in k c (suc n) bs = followed (multiplier-at k c bs) (multipliers-in k c n (drop (2 + c .width) bs))
 
--- the part of a ticket behind the head, and that behind the word
-abbrev pub behind-head : List ℕ → List ℕ
-behind-head bs = drop 7 bs
+-- what a ticket holds: the packed word, its cells, the multiplier records, and the multipliers
+abbrev pub packed-word : Counts → List ℕ → List ℕ
+packed-word n bs = take (packed-length (n .cells)) (drop 9 bs)
 
-abbrev pub behind-word : Counts → List ℕ → List ℕ
-behind-word n bs = drop (9 + packed-length (n .cells)) bs
+abbrev pub word-read : Counts → List ℕ → List ℕ
+word-read n bs = unpacked (n .cells) (packed-word n bs)
 
--- 22: a work list of m weights is not one an edge; 15: no head; 16: another kind or other counts; 17: not of the form behind the head
+abbrev pub records-part : Counts → List ℕ → List ℕ
+records-part n bs = drop (9 + packed-length (n .cells)) bs
+
+abbrev pub or-empty : {W : Type 0} → Option (List W) → List W
+or-empty (Some ws) = ws
+or-empty None = []
+
+abbrev pub multipliers-read : {W : Type 0} → Kind W → Codec W → Counts → List ℕ → List W
+multipliers-read k c n bs = or-empty (multipliers-in k c (n .edges) (records-part n bs))
+
+-- 15: head short or its mark wrong; 16: kind or counts not those expected; 17: the word record is not of the form
+abbrev pub parts-refusal : ℕ → Counts → List ℕ → ℕ
+parts-refusal kind n bs =
+    cond (not (headed bs)) 15
+    (cond (not (head-names kind n bs)) 16
+    (cond (isSome (word-part (n .cells) (drop 7 bs))) 0 17))
+
+-- 22: a work list of m weights is not one an edge; then 15, 16 and 17 as above, and 17 where the multipliers are not of the form
 abbrev pub read-refusal : {W : Type 0} → Kind W → Codec W → Counts → List ℕ → ℕ → ℕ
 read-refusal k c n bs m =
     cond (not (eqb m (n .edges))) 22
-    (cond (not (headed bs)) 15
-    (cond (not (head-names (c .kind-byte) n bs)) 16
-    (cond (isSome (word-part (n .cells) (behind-head bs)) && isSome (multipliers-in k c (n .edges) (behind-word n bs))) 0 17)))
+    (or-else (parts-refusal (c .kind-byte) n bs)
+    (cond (isSome (multipliers-in k c (n .edges) (records-part n bs))) 0 17))

@@ -7,13 +7,20 @@ ghost use Rattle.std.specs.declared.option.Option.the-variants.{Some};
 ghost use Rattle.tickets.specs.Codecs.{Codec};
 use weights::Weight;
 
+mod head;
 mod kinds;
 mod marks;
+mod multipliers;
+mod reader;
+mod reading;
 mod words;
 mod writer;
 
+pub use head::Head;
 pub use kinds::PairedTicketWeight;
 pub use kinds::PlainTicketWeight;
+pub use reader::TicketReader;
+pub use reading::read;
 pub use words::unpack;
 pub use writer::write;
 

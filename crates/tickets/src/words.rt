@@ -7,7 +7,7 @@ ghost use Rattle.tickets.specs.Packs.{Bits, no-bits, octet, packed-length, pac
 
 // How many bytes the cells take.
 pub(crate) fn packed_len(cells: usize) -> usize
-    requires { ⌜ cells ≤ 128 ⌝ }
+    requires { ⌜ cells ≤ 65535 ⌝ }
     ensures { λ r. ⌜ r ≡ packed-length cells ⌝ }
 {
     (cells + 7) / 8
