@@ -30,7 +30,7 @@ octets-take n bs o i = elim (cases-lt i n) [
     | inr past ↦ subst (λ b. b < 256) (sym (getD-past (take n bs) i 0 (simp length-take (omega arith)))) (omega arith) ]
 
 -- a mark at the front
-marked-front : (a b : ℕ) (bs : List ℕ) → marked (a ∷ b ∷ []) (a ∷ b ∷ bs) ≡ true
+pub marked-front : (a b : ℕ) (bs : List ℕ) → marked (a ∷ b ∷ []) (a ∷ b ∷ bs) ≡ true
 marked-front a b bs = and-from _ _ (le-leb 2 (length (a ∷ b ∷ bs)) (omega arith)) (and-from _ _ (eq-eqb a a refl) (eq-eqb b b refl))
 
 pub marked-only : (a b : ℕ) (bs : List ℕ) → marked (a ∷ b ∷ []) bs ≡ true → bs ≡ a ∷ b ∷ drop 2 bs

@@ -6,3 +6,4 @@ pub mod Forms
 pub mod Written
 pub mod Records
 pub mod Parted
+pub mod Whole

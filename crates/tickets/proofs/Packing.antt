@@ -160,3 +160,8 @@ pack-unpack n bs o l e =
         let c7 = cell j 7 (omega arith) in
         let b = byte-whole (getD bs j 0) (o j) in
         omega arith
+
+pub bits-unpacked : (n : ℕ) (bs : List ℕ) → Bits (unpacked n bs)
+bits-unpacked n bs k = elim (cases-lt k n) [
+      inl low ↦ omega (arith, getD-map-counting (cell-bit bs) 0 n k k 0 low (omega arith))
+    | inr past ↦ omega (arith, getD-past (unpacked n bs) k 0 (simp (length-map-counting (cell-bit bs) 0 n) past)) ]

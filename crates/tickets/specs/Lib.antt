@@ -5,3 +5,5 @@ pub mod Parts
 pub mod PartLaws
 pub mod Kinds
 pub mod Heads
+pub mod Laws
+pub mod Examples

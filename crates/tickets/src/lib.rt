@@ -9,6 +9,7 @@ use weights::Weight;
 
 mod head;
 mod kinds;
+mod laws;
 mod marks;
 mod multipliers;
 mod reader;
@@ -19,6 +20,9 @@ mod writer;
 pub use head::Head;
 pub use kinds::PairedTicketWeight;
 pub use kinds::PlainTicketWeight;
+pub use laws::only_written_tickets_are_read;
+pub use laws::worked_tickets;
+pub use laws::written_tickets_read_back;
 pub use reader::TicketReader;
 pub use reading::read;
 pub use words::unpack;

@@ -46,7 +46,8 @@ fn parts<'a, L: Layout, W: TicketWeight>(
 }
 
 // Reads the ticket of a word and its multipliers over this layout. The multipliers land in the work list, and the answer is
-// the packed word. A work list that is not one an edge is declined first. When the call is declined, the work list stays.
+// the packed word: bytes that are read are the ticket of both. A work list that is not one an edge is declined first. When
+// the call is declined, the work list stays.
 pub fn read<'a, L: Layout, W: TicketWeight>(
     layout: &L,
     bytes: &'a [u8],
@@ -55,6 +56,7 @@ pub fn read<'a, L: Layout, W: TicketWeight>(
     ensures number { λ r. ⌜ number-of r ≡ read-refusal (W·Weight .kind) codec (counts (plan (now (layout .entry)))) (now (bytes .entry)) (length (now (work .entry))) ⌝ }
     ensures word { λ r. ⌜ made r (λ p. now p ≡ packed-word (counts (plan (now (layout .entry)))) (now (bytes .entry))) ⌝ }
     ensures work { λ r. ⌜ made r (λ _. now (work .exit) ≡ multipliers-read (W·Weight .kind) codec (counts (plan (now (layout .entry)))) (now (bytes .entry))) ⌝ }
+    ensures written { λ r. ⌜ made r (λ p. now (bytes .entry) ≡ ticket codec (counts (plan (now (layout .entry)))) (unpacked (plan (now (layout .entry)) .cells) (now p)) (now (work .exit))) ⌝ }
     ensures same { λ r. ⌜ refused r (λ _. now (work .exit) ≡ now (work .entry)) ⌝ }
 {
     if work.len() != layout.edges() as usize {
