@@ -56,6 +56,22 @@ pub fn floor<W: Shown>(
     format!(heap, "slacks{slacks}\ntrial {trial}\nfloor {floor}\n")
 }
 
+pub fn ticket(heap: Global, bytes: &[u8]) -> Result<String, AllocError> {
+    let bytes = Hex(bytes);
+    format!(heap, "ticket {bytes}\n")
+}
+
+// What a ticket holds.
+pub fn contents<W: Shown>(
+    heap: Global,
+    word: &[u8],
+    multipliers: &[W],
+) -> Result<String, AllocError> {
+    let word = Bits(word);
+    let multipliers = Spaced(multipliers);
+    format!(heap, "word {word}\nmultipliers{multipliers}\n")
+}
+
 // A line for each row. The marks have one byte an edge, row after row.
 #[derive(Drop)]
 struct Rows<'a, L, W> {
@@ -112,6 +128,19 @@ impl fmt::Display for Bits<'_> as BitsDisplay {
     fn fmt<F: fmt::Write>(&self, f: &mut fmt::Formatter<F>) -> fmt::Result {
         for bit in self.0 {
             write!(f, "{bit}")?;
+        }
+        Ok(())
+    }
+}
+
+// Two digits a byte.
+#[derive(Drop)]
+struct Hex<'a>(&'a [u8]);
+
+impl fmt::Display for Hex<'_> as HexDisplay {
+    fn fmt<F: fmt::Write>(&self, f: &mut fmt::Formatter<F>) -> fmt::Result {
+        for byte in self.0 {
+            write!(f, "{byte:02X}")?;
         }
         Ok(())
     }

@@ -45,6 +45,10 @@ impl<W: Shown> Boards<W> {
         match query {
             Query::Choices => self.choices(heap, layout),
             Query::Floor => self.floor(heap, layout),
+            Query::Encode { word, multipliers } => {
+                encode::<L, W>(heap, layout, &word, words::values(heap, multipliers)?)
+            }
+            Query::Decode(bytes) => decode::<L, W>(heap, layout, &bytes),
         }
     }
 
@@ -74,4 +78,23 @@ fn priced<W: Shown>(heap: Global, greys: &[u8]) -> Result<Vec<W>, Fault> {
 
 fn zeros<W: Shown>(heap: Global, len: usize) -> Result<Vec<W>, AllocError> {
     vec![in heap; W::zero(); len]
+}
+
+fn encode<L: Layout, W: Shown>(
+    heap: Global,
+    layout: &L,
+    word: &[u8],
+    multipliers: Vec<W>,
+) -> Result<String, Fault> {
+    let mut out = vec![in heap; 0u8; tickets::ticket_len::<L, W>(layout)]?;
+    tickets::write(layout, word, &multipliers, &mut out)?;
+    Ok(answers::ticket(heap, &out)?)
+}
+
+fn decode<L: Layout, W: Shown>(heap: Global, layout: &L, bytes: &[u8]) -> Result<String, Fault> {
+    let mut multipliers: Vec<W> = zeros(heap, usize::from(layout.edges()))?;
+    let packed = tickets::read(layout, bytes, &mut multipliers)?;
+    let mut word = vec![in heap; 0u8; usize::from(layout.cells())]?;
+    tickets::unpack(packed, &mut word);
+    Ok(answers::contents(heap, &word, &multipliers)?)
 }

@@ -25,10 +25,15 @@ pub enum Setting<'a> {
 }
 
 // What is asked of the layout and the boards.
-#[derive(Clone, Copy)]
-pub enum Query {
+#[derive(Drop)]
+pub enum Query<'a> {
     Choices,
     Floor,
+    Encode {
+        word: Vec<u8>,
+        multipliers: &'a [&'a str],
+    },
+    Decode(Vec<u8>),
 }
 
 #[derive(Drop)]
@@ -38,7 +43,7 @@ pub enum Command<'a> {
     Grid { lines: u16, columns: u16 },
     Kind(KindName),
     Set(Setting<'a>),
-    Ask(Query),
+    Ask(Query<'a>),
 }
 
 pub fn parse<'a>(heap: Global, words: &'a [&'a str]) -> Result<Command<'a>, Fault> {
@@ -56,6 +61,8 @@ fn continued<'a>(heap: Global, verb: Verb, rest: &'a [&'a str]) -> Result<Comman
         Verb::Greys => Ok(Command::Set(Setting::Greys(words::values(heap, rest)?))),
         Verb::Costs => Ok(Command::Set(Setting::Costs(rest))),
         Verb::Multipliers => Ok(Command::Set(Setting::Multipliers(rest))),
+        Verb::Encode => Ok(Command::Ask(encoding(heap, rest)?)),
+        Verb::Decode => Ok(Command::Ask(decoding(heap, rest)?)),
         Verb::Help | Verb::Grid | Verb::Kind | Verb::Choices | Verb::Floor => short(verb, rest),
     }
 }
@@ -94,4 +101,19 @@ fn listing(heap: Global, rest: &[&str]) -> Result<Listing, Fault> {
         }
     }
     Err(Fault::Mistake(Mistake::Form(Verb::Listed)))
+}
+
+fn encoding<'a>(heap: Global, rest: &'a [&'a str]) -> Result<Query<'a>, Fault> {
+    let [word, multipliers @ ..] = rest else {
+        return Err(Fault::Mistake(Mistake::Form(Verb::Encode)));
+    };
+    let word = words::cells(heap, word)?;
+    Ok(Query::Encode { word, multipliers })
+}
+
+fn decoding<'a>(heap: Global, rest: &[&str]) -> Result<Query<'a>, Fault> {
+    let [hex] = rest else {
+        return Err(Fault::Mistake(Mistake::Form(Verb::Decode)));
+    };
+    Ok(Query::Decode(words::hex(heap, hex)?))
 }

@@ -15,6 +15,8 @@ pub enum Mistake {
     Grey,
     Plain,
     Paired,
+    Word,
+    Hex,
     NoLayout,
 }
 
@@ -28,6 +30,8 @@ pub impl fmt::Display for Mistake as MistakeDisplay {
             Mistake::Grey => "a grey is 0 to 255",
             Mistake::Plain => "expected numbers in decimal, as -5",
             Mistake::Paired => "expected pairs of numbers in decimal, as -5,1",
+            Mistake::Word => "expected a word, a digit a cell, as 110",
+            Mistake::Hex => "expected a ticket, two hexadecimal digits a byte",
             Mistake::NoLayout => "choose a layout first, by listed or grid",
         };
         f.write_str(expected)

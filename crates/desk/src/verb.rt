@@ -10,6 +10,8 @@ pub enum Verb {
     Multipliers,
     Choices,
     Floor,
+    Encode,
+    Decode,
 }
 
 // A command for a person: its first word, what follows that word, and what the command does.
@@ -21,7 +23,7 @@ pub struct Entry {
 }
 
 // In the order in which help lists them.
-pub static ENTRIES: [Entry; 9] = [
+pub static ENTRIES: [Entry; 11] = [
     Entry {
         verb: Verb::Help,
         word: "help",
@@ -75,6 +77,18 @@ pub static ENTRIES: [Entry; 9] = [
         word: "floor",
         rest: "",
         purpose: "answers the slacks, the trial word and the floor",
+    },
+    Entry {
+        verb: Verb::Encode,
+        word: "encode",
+        rest: " WORD M..",
+        purpose: "answers the ticket of a word, as 110, and of multipliers, one an edge",
+    },
+    Entry {
+        verb: Verb::Decode,
+        word: "decode",
+        rest: " HEX",
+        purpose: "answers the word and the multipliers of a ticket",
     },
 ];
 

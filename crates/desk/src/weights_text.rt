@@ -3,6 +3,9 @@ use crate::fault::Mistake;
 use crate::words;
 use crate::words::FromWord;
 use std::fmt;
+use tickets::PairedTicketWeight;
+use tickets::PlainTicketWeight;
+use tickets::TicketWeight;
 use weights::GreyCost;
 use weights::Paired;
 use weights::PairedGreyCost;
@@ -10,7 +13,7 @@ use weights::Plain;
 use weights::PlainGreyCost;
 
 // A kind of weight that is read and written.
-pub trait Shown: GreyCost + FromWord + Clone {
+pub trait Shown: GreyCost + TicketWeight + FromWord + Clone {
     fn show<F: fmt::Write>(self, f: &mut fmt::Formatter<F>) -> fmt::Result;
 }
 

@@ -78,3 +78,40 @@ pub impl FromWord for u8 as GreyFromWord {
         u8::try_from(value).ok().ok_or(Mistake::Grey)
     }
 }
+
+// The cells of a word, a digit each.
+pub fn cells(heap: Global, word: &str) -> Result<Vec<u8>, Fault> {
+    let mut all = Vec::new(heap);
+    for byte in word.as_bytes() {
+        if !byte.is_ascii_digit() {
+            return Err(Fault::Mistake(Mistake::Word));
+        }
+        all.push(*byte - b'0')?;
+    }
+    Ok(all)
+}
+
+fn hex_digit(byte: u8) -> Option<u8>
+    ensures { λ r. ⌜ Cases r (Unit {0}) (λ d. d ≤ 15) ⌝ }
+{
+    match byte {
+        b'0'..=b'9' => Some(byte - b'0'),
+        b'A'..=b'F' => Some(byte - b'A' + 10),
+        b'a'..=b'f' => Some(byte - b'a' + 10),
+        _ => None,
+    }
+}
+
+// The bytes that pairs of hexadecimal digits say.
+pub fn hex(heap: Global, word: &str) -> Result<Vec<u8>, Fault> {
+    let mut all = Vec::new(heap);
+    for pair in word.as_bytes().chunks(2) {
+        let [high, low] = pair else {
+            return Err(Fault::Mistake(Mistake::Hex));
+        };
+        let high = hex_digit(*high).ok_or(Mistake::Hex)?;
+        let low = hex_digit(*low).ok_or(Mistake::Hex)?;
+        all.push(16 * high + low)?;
+    }
+    Ok(all)
+}

@@ -26,8 +26,9 @@ octets-drop n bs o i = subst (λ b. b < 256) (sym (getD-drop n bs i 0)) (o (n + 
 
 pub octets-take : (n : ℕ) (bs : List ℕ) → Octets bs → Octets (take n bs)
 octets-take n bs o i = elim (cases-lt i n) [
-      inl low ↦ subst (λ b. b < 256) (sym (getD-take n bs i 0 low)) (o i)
-    | inr past ↦ subst (λ b. b < 256) (sym (getD-past (take n bs) i 0 (simp length-take (omega arith)))) (omega arith) ]
+  | inl low ↦ subst (λ b. b < 256) (sym (getD-take n bs i 0 low)) (o i)
+  | inr past ↦ subst (λ b. b < 256) (sym (getD-past (take n bs) i 0 (simp length-take (omega arith)))) (omega arith)
+]
 
 -- a mark at the front
 pub marked-front : (a b : ℕ) (bs : List ℕ) → marked (a ∷ b ∷ []) (a ∷ b ∷ bs) ≡ true
@@ -61,7 +62,7 @@ word-back x rest =
     let room : leb (2 + packed-length (length x)) (length (word-bytes x ++ rest)) ≡ true = le-leb _ _ (omega (arith, length-append (packed x) rest)) in
     let free : clear (length x) (take (packed-length (length x)) (packed x ++ rest)) ≡ true = ap (clear (length x)) part ∙ clear-packed x in
     cond-true _ (Some (take (packed-length (length x)) (packed x ++ rest))) None
-        (and-from (marked word-mark (word-bytes x ++ rest)) _ (marked-front 0x4C 0x57 (packed x ++ rest)) (and-from _ _ room free))
+    (and-from (marked word-mark (word-bytes x ++ rest)) _ (marked-front 0x4C 0x57 (packed x ++ rest)) (and-from _ _ room free))
     ∙ ap Some part
 
 pub record WordRead (n : ℕ) (bs p : List ℕ) : Type 0 where
@@ -98,8 +99,8 @@ module _ {W : Type 0} (k : Kind W) (c : Codec W) where
       let part : take (c .width) (c .put m ++ rest) ≡ c .put m = take-at (c .put m) rest (c .width) (c .put-length m) in
       let room : leb (2 + c .width) (length (multiplier-bytes c m ++ rest)) ≡ true = le-leb _ _ (omega (arith, length-append (c .put m) rest, c .put-length m)) in
       cond-true (marked multiplier-mark (multiplier-bytes c m ++ rest) && leb (2 + c .width) (length (multiplier-bytes c m ++ rest)))
-          (small k (c .get (take (c .width) (c .put m ++ rest)))) None
-          (and-from _ _ (marked-front 0x4C 0x4D (c .put m ++ rest)) room)
+      (small k (c .get (take (c .width) (c .put m ++ rest)))) None
+      (and-from _ _ (marked-front 0x4C 0x4D (c .put m ++ rest)) room)
       ∙ ap (λ l. small k (c .get l)) part ∙ ap (small k) (c .back m) ∙ cond-true (leb (k .size m) (2 ^ 18)) (Some m) None (le-leb _ _ h)
 
   pub multipliers-back : (ms : List W) → beyond k (2 ^ 18) ms ≡ false → multipliers-in k c (length ms) (joined (multiplier-bytes c) ms) ≡ Some ms
@@ -125,16 +126,17 @@ module _ {W : Type 0} (k : Kind W) (c : Codec W) where
       let a = and-parts (marked multiplier-mark bs) (leb (2 + c .width) (length bs)) (h .0) in
       let s = small-only (c .get (take (c .width) (drop 2 bs))) m (h .1) in
       let is = c .only (take (c .width) (drop 2 bs)) m (octets-take (c .width) (drop 2 bs) (octets-drop 2 bs o)) (s .0) in
-      let f = marked-only 0x4C 0x4D bs (a .0) in
-      ( f ∙ ap (λ l. 0x4C ∷ 0x4D ∷ l) (sym (take-append-drop (c .width) (drop 2 bs)) ∙ ap (λ l. l ++ drop (c .width) (drop 2 bs)) is ∙ ap (λ l. c .put m ++ l) (drop-drop (c .width) 2 bs))
-      , s .1)
+      let f = marked-only 0x4C 0x4D bs (a .0) in (
+        f ∙ ap (λ l. 0x4C ∷ 0x4D ∷ l) (sym (take-append-drop (c .width) (drop 2 bs)) ∙ ap (λ l. l ++ drop (c .width) (drop 2 bs)) is ∙ ap (λ l. c .put m ++ l) (drop-drop (c .width) 2 bs)),
+        s .1,
+      )
 
   pub multipliers-only : (n : ℕ) (bs : List ℕ) (ms : List W) → Octets bs → multipliers-in k c n bs ≡ Some ms → (bs ≡ joined (multiplier-bytes c) ms) × (length ms ≡ n) × (beyond k (2 ^ 18) ms ≡ false)
   multipliers-only zero bs ms o e =
       let h = held (eqb (length bs) 0) (Some []) ms e in
       let none = nil-from-length bs (eqb-true (length bs) 0 (h .0)) in
       let is : [] ≡ ms = cc in
-      ( none ∙ ap (joined (multiplier-bytes c)) is, ap length (sym is), ap (beyond k (2 ^ 18)) (sym is))
+      (none ∙ ap (joined (multiplier-bytes c)) is, ap length (sym is), ap (beyond k (2 ^ 18)) (sym is))
   multipliers-only (suc n) bs ms o e =
       let rest = drop (2 + c .width) bs in
       let h = followed-only (multiplier-at k c bs) (multipliers-in k c n rest) ms e in
@@ -142,10 +144,11 @@ module _ {W : Type 0} (k : Kind W) (c : Codec W) where
       let us = h .1 .0 in
       let one = multiplier-only bs m o (h .1 .1) in
       let more = multipliers-only n rest us (octets-drop (2 + c .width) bs o) (h .1 .2) in
-      let is : m ∷ us ≡ ms = h .1 .3 in
-      ( one .0 ∙ ap (λ l. multiplier-bytes c m ++ l) (more .0) ∙ ap (joined (multiplier-bytes c)) is
-      , ap length (sym is) ∙ ap suc (more .1)
-      , ap (beyond k (2 ^ 18)) (sym is) ∙ or-from (ltb (2 ^ 18) (k .size m)) (beyond k (2 ^ 18) us) (le-ltb _ _ (one .1)) (more .2))
+      let is : m ∷ us ≡ ms = h .1 .3 in (
+        one .0 ∙ ap (λ l. multiplier-bytes c m ++ l) (more .0) ∙ ap (joined (multiplier-bytes c)) is,
+        ap length (sym is) ∙ ap suc (more .1),
+        ap (beyond k (2 ^ 18)) (sym is) ∙ or-from (ltb (2 ^ 18) (k .size m)) (beyond k (2 ^ 18) us) (le-ltb _ _ (one .1)) (more .2),
+      )
 
   pub ticket-length : (n : Counts) (x : List ℕ) (ms : List W) → length (ticket c n x ms) ≡ 9 + packed-length (length x) + length ms * (2 + c .width)
   unfolding ticket

@@ -54,9 +54,9 @@ module _ (a b c d e f g h : ℕ) where
 octet-bit : (x : List ℕ) → Bits x → (j r : ℕ) → r < 8 → octet x j / 2 ^ (7 - r) % 2 ≡ getD x (8 * j + r) 0
 octet-bit x o j r h =
     eight-bits (getD x (8 * j) 0) (getD x (8 * j + 1) 0) (getD x (8 * j + 2) 0) (getD x (8 * j + 3) 0) (getD x (8 * j + 4) 0) (getD x (8 * j + 5) 0) (getD x (8 * j + 6) 0) (getD x (8 * j + 7) 0)
-        (o (8 * j)) (o (8 * j + 1)) (o (8 * j + 2)) (o (8 * j + 3)) (o (8 * j + 4)) (o (8 * j + 5)) (o (8 * j + 6)) (o (8 * j + 7)) r h
+    (o (8 * j)) (o (8 * j + 1)) (o (8 * j + 2)) (o (8 * j + 3)) (o (8 * j + 4)) (o (8 * j + 5)) (o (8 * j + 6)) (o (8 * j + 7)) r h
     ∙ eight-places (getD x (8 * j) 0) (getD x (8 * j + 1) 0) (getD x (8 * j + 2) 0) (getD x (8 * j + 3) 0) (getD x (8 * j + 4) 0) (getD x (8 * j + 5) 0) (getD x (8 * j + 6) 0) (getD x (8 * j + 7) 0)
-        x j refl refl refl refl refl refl refl refl r h
+    x j refl refl refl refl refl refl refl refl r h
 
 pub unpack-pack : (x : List ℕ) → Bits x → unpacked (length x) (packed x) ≡ x
 unpack-pack x o = sym (fill-by-all (cell-bit (packed x)) x (length x) 0 refl each)
@@ -87,15 +87,16 @@ clear-at x n e = elim (cases-lt (n / 8) (packed-length (length x))) [ inl low �
     behind : packed-length (length x) ≤ n / 8 → getD (packed x) (n / 8) 0 % 2 ^ (8 - n % 8) ≡ 0
     behind past =
         ap (λ b. b % 2 ^ (8 - n % 8)) (getD-past (packed x) (n / 8) 0 (simp (length-map-counting (octet x) 0 (packed-length (length x))) past)) ∙ zero-mod (2 ^ (8 - n % 8))
+
     here : n / 8 < packed-length (length x) → getD (packed x) (n / 8) 0 % 2 ^ (8 - n % 8) ≡ 0
     here low =
         let j = n / 8 in
         let blank : (r : ℕ) → n % 8 ≤ r → getD x (8 * (n / 8) + r) 0 ≡ 0 = λ r h. getD-past x (8 * (n / 8) + r) 0 (omega arith) in
         ap (λ b. b % 2 ^ (8 - n % 8)) (getD-map-counting (octet x) 0 (packed-length (length x)) (n / 8) (n / 8) 0 low (omega arith))
         ∙ eight-clear (getD x (8 * j) 0) (getD x (8 * j + 1) 0) (getD x (8 * j + 2) 0) (getD x (8 * j + 3) 0) (getD x (8 * j + 4) 0) (getD x (8 * j + 5) 0) (getD x (8 * j + 6) 0) (getD x (8 * j + 7) 0)
-          (n % 8) (omega arith)
-          (λ r h l. eight-places (getD x (8 * j) 0) (getD x (8 * j + 1) 0) (getD x (8 * j + 2) 0) (getD x (8 * j + 3) 0) (getD x (8 * j + 4) 0) (getD x (8 * j + 5) 0) (getD x (8 * j + 6) 0) (getD x (8 * j + 7) 0)
-              x j refl refl refl refl refl refl refl refl r l ∙ blank r h)
+        (n % 8) (omega arith)
+        (λ r h l. eight-places (getD x (8 * j) 0) (getD x (8 * j + 1) 0) (getD x (8 * j + 2) 0) (getD x (8 * j + 3) 0) (getD x (8 * j + 4) 0) (getD x (8 * j + 5) 0) (getD x (8 * j + 6) 0) (getD x (8 * j + 7) 0)
+        x j refl refl refl refl refl refl refl refl r l ∙ blank r h)
 
 pub clear-packed : (x : List ℕ) → clear (length x) (packed x) ≡ true
 clear-packed x = eq-eqb (getD (packed x) (length x / 8) 0 % 2 ^ (8 - length x % 8)) 0 (clear-at x (length x) refl)
@@ -127,8 +128,9 @@ cell-beyond n bs k l e h = elim (cases-lt (k / 8) (length bs)) [ inl low ↦ her
 -- the word that was unpacked has each cell's bit, and 0 behind the last
 pub cell-unpacked : (n : ℕ) (bs : List ℕ) (k : ℕ) → length bs ≡ packed-length n → clear n bs ≡ true → getD (unpacked n bs) k 0 ≡ cell-bit bs k
 cell-unpacked n bs k l e = elim (cases-lt k n) [
-      inl low ↦ getD-map-counting (cell-bit bs) 0 n k k 0 low (omega arith)
-    | inr past ↦ getD-past (unpacked n bs) k 0 (simp (length-map-counting (cell-bit bs) 0 n) past) ∙ sym (cell-beyond n bs k l e past) ]
+  | inl low ↦ getD-map-counting (cell-bit bs) 0 n k k 0 low (omega arith)
+  | inr past ↦ getD-past (unpacked n bs) k 0 (simp (length-map-counting (cell-bit bs) 0 n) past) ∙ sym (cell-beyond n bs k l e past)
+]
 
 byte-whole : (b : ℕ) → b < 256 → 128 * (b / 128 % 2) + 64 * (b / 64 % 2) + 32 * (b / 32 % 2) + 16 * (b / 16 % 2) + 8 * (b / 8 % 2) + 4 * (b / 4 % 2) + 2 * (b / 2 % 2) + b / 1 % 2 ≡ b
 byte-whole b h =
@@ -148,6 +150,7 @@ pack-unpack n bs o l e =
   where
     cell : (j r : ℕ) → r < 8 → getD (unpacked n bs) (8 * j + r) 0 ≡ getD bs j 0 / 2 ^ (7 - r) % 2
     cell j r h = cell-unpacked n bs (8 * j + r) l e ∙ place-bit bs j r h
+
     each : (j : ℕ) → j < packed-length n → getD bs j 0 ≡ octet (unpacked n bs) j
     each j h =
         let c0 : getD (unpacked n bs) (8 * j) 0 ≡ getD bs j 0 / 128 % 2 = ap (λ i. getD (unpacked n bs) i 0) (sym (add-zero (8 * j))) ∙ cell j 0 (omega arith) in
@@ -163,5 +166,6 @@ pack-unpack n bs o l e =
 
 pub bits-unpacked : (n : ℕ) (bs : List ℕ) → Bits (unpacked n bs)
 bits-unpacked n bs k = elim (cases-lt k n) [
-      inl low ↦ omega (arith, getD-map-counting (cell-bit bs) 0 n k k 0 low (omega arith))
-    | inr past ↦ omega (arith, getD-past (unpacked n bs) k 0 (simp (length-map-counting (cell-bit bs) 0 n) past)) ]
+  | inl low ↦ omega (arith, getD-map-counting (cell-bit bs) 0 n k k 0 low (omega arith))
+  | inr past ↦ omega (arith, getD-past (unpacked n bs) k 0 (simp (length-map-counting (cell-bit bs) 0 n) past))
+]

@@ -26,10 +26,11 @@ module _ {W : Type 0} (k : Kind W) (c : Codec W) where
       → (multiplier-at k c bs ≡ Some m) × (behind ≡ drop (2 + c .width) bs)
   first-is bs rest bytes behind width m a r l w h b d s =
       let room : leb (2 + c .width) (length bs) ≡ true = le-leb _ _ (omega arith) in
-      let part : bytes ≡ take (c .width) (drop 2 bs) = b ∙ ap (λ n. take n rest) w ∙ ap (take (c .width)) r in
-      ( cond-true (marked multiplier-mark bs && leb (2 + c .width) (length bs)) (small k (c .get (take (c .width) (drop 2 bs)))) None (and-from _ _ a room)
-        ∙ ap (λ l. small k (c .get l)) (sym part) ∙ s
-      , d ∙ ap (λ n. drop n rest) w ∙ ap (drop (c .width)) r ∙ drop-drop (c .width) 2 bs)
+      let part : bytes ≡ take (c .width) (drop 2 bs) = b ∙ ap (λ n. take n rest) w ∙ ap (take (c .width)) r in (
+        cond-true (marked multiplier-mark bs && leb (2 + c .width) (length bs)) (small k (c .get (take (c .width) (drop 2 bs)))) None (and-from _ _ a room)
+            ∙ ap (λ l. small k (c .get l)) (sym part) ∙ s,
+        d ∙ ap (λ n. drop n rest) w ∙ ap (drop (c .width)) r ∙ drop-drop (c .width) 2 bs,
+      )
 
   -- one record more
   more : (n : ℕ) (left behind : List ℕ) (m : W) → 0 < n → multiplier-at k c left ≡ Some m → behind ≡ drop (2 + c .width) left
@@ -83,6 +84,7 @@ module _ {W : Type 0} (k : Kind W) (c : Codec W) where
     where
       here : after (take i work) (multipliers-in k c 0 left) ≡ o
       here = ap (λ j. after (take i work) (multipliers-in k c j left)) (sym z) ∙ inv
+
       go : (b : Bool) → eqb (length left) 0 ≡ b → Some work ≡ o
       go true e = ap Some (sym (take-all i work h) ∙ sym (append-nil (take i work))) ∙ sym (ap (λ t. after (take i work) (cond t (Some []) None)) e) ∙ here
       go false e =

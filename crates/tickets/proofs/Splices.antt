@@ -59,5 +59,5 @@ module _ {W : Type 0} (f : W → List ℕ) (width : ℕ) (each : (w : W) → len
       let long : length (joined f (take i ws)) ≡ i * width = joined-length (take i ws) ∙ ap (λ k. k * width) (length-take-le i ws (omega arith)) in
       let room = record-room start i (length ws) at (length xs) e h r in
       let more : joined f (take i ws) ++ f w ≡ joined f (take (i + 1) ws) =
-          ap (λ v. joined f (take i ws) ++ f v) is ∙ joined-more f [] (take i ws) (getD ws i w) ∙ ap (joined f) (sym (take-more ws i w h)) in
+      ap (λ v. joined f (take i ws) ++ f v) is ∙ joined-more f [] (take i ws) (getD ws i w) ∙ ap (joined f) (sym (take-more ws i w h)) in
       ap (λ l. splice l at (f w)) inv ∙ splice-join xs (joined f (take i ws)) (f w) start at (omega arith) (omega arith) ∙ ap (splice xs start) more

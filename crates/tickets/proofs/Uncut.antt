@@ -47,5 +47,5 @@ pub paired-cut : (bs : List ℕ) (w : Paired) → w .grey ≡ cut (2 ^ 30) (part
     → (w .grey ≡ part-of bs → ⊥) ⊎ (w .dark ≡ part-of (drop 4 bs) → ⊥) → None ≡ paired-in bs
 paired-cut bs w e f o =
     let any : (eqb (length bs) 8 && (part-fits (part-of bs) && part-fits (part-of (drop 4 bs)))) ≡ false =
-        elim o [ inl n ↦ (let b = unfit-cut (w .grey) (part-of bs) e n in grind arith) | inr n ↦ (let b = unfit-cut (w .dark) (part-of (drop 4 bs)) f n in grind arith) ] in
+    elim o [ inl n ↦ (let b = unfit-cut (w .grey) (part-of bs) e n in grind arith) | inr n ↦ (let b = unfit-cut (w .dark) (part-of (drop 4 bs)) f n in grind arith) ] in
     sym (ap (λ t. cond t (Some (paired-of (part-of bs) (part-of (drop 4 bs)))) None) any)

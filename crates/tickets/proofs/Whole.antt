@@ -20,7 +20,7 @@ use Rattle.tickets.specs.Codecs.{Codec}
 use Rattle.tickets.specs.Laws.{ReadsBack, OnlyWritten, NeverAlike}
 use Rattle.tickets.specs.Packs.{Octets, Bits, no-bits, octet, packed-length, packed, cell-bit, unpacked}
 use Rattle.tickets.specs.Tickets.{Counts, head-mark, word-mark, head-bytes, word-bytes, multiplier-bytes, ticket, write-refusal, marked, headed, head-names, word-part, multipliers-in, packed-word, word-read, records-part, or-empty, multipliers-read, parts-refusal, read-refusal}
-use Rattle.tickets.proofs.Forms.{octets-drop, octets-take, marked-front, marked-only, word-back, word-only, multipliers-back, multipliers-only}
+use Rattle.tickets.proofs.Forms.{octets-drop, octets-take, marked-front, marked-only, word-back, word-only, multipliers-back, multipliers-only, ticket-length}
 use Rattle.tickets.proofs.Packing.{bits-from, bits-to, bits-unpacked, unpack-pack, pack-unpack}
 use Rattle.tickets.proofs.Written.{accepted}
 
@@ -88,10 +88,11 @@ head-only kind n bs o h e =
 pub all-read : {W : Type 0} (k : Kind W) (c : Codec W) (n : Counts) (bs part : List ℕ) (out : List W) (m : ℕ) → m ≡ n .edges → 0 ≡ parts-refusal (c .kind-byte) n bs → part ≡ records-part n bs
     → Some out ≡ multipliers-in k c m part → (read-refusal k c n bs m ≡ 0) × (out ≡ multipliers-read k c n bs)
 all-read k c n bs part out m em ep er e =
-    let found : multipliers-in k c (n .edges) (records-part n bs) ≡ Some out = sym (e ∙ ap (λ i. multipliers-in k c i part) em ∙ ap (multipliers-in k c (n .edges)) er) in
-    ( ap (λ t. cond (not t) 22 (or-else (parts-refusal (c .kind-byte) n bs) (cond (isSome (multipliers-in k c (n .edges) (records-part n bs))) 0 17))) (eq-eqb m (n .edges) em)
-      ∙ ap (λ a. or-else a (cond (isSome (multipliers-in k c (n .edges) (records-part n bs))) 0 17)) (sym ep) ∙ ap (λ o. cond (isSome o) 0 17) found
-    , sym (ap or-empty found))
+    let found : multipliers-in k c (n .edges) (records-part n bs) ≡ Some out = sym (e ∙ ap (λ i. multipliers-in k c i part) em ∙ ap (multipliers-in k c (n .edges)) er) in (
+      ap (λ t. cond (not t) 22 (or-else (parts-refusal (c .kind-byte) n bs) (cond (isSome (multipliers-in k c (n .edges) (records-part n bs))) 0 17))) (eq-eqb m (n .edges) em)
+          ∙ ap (λ a. or-else a (cond (isSome (multipliers-in k c (n .edges) (records-part n bs))) 0 17)) (sym ep) ∙ ap (λ o. cond (isSome o) 0 17) found,
+      sym (ap or-empty found),
+    )
 
 none-back : (a b c : Bool) → a ≡ false → b ≡ false → c ≡ false → _≡_ {A = ℕ} (cond a 13 (cond b 12 (cond c 20 0))) 0
 none-back a b c p q r = ap (λ t. cond t 13 (cond b 12 (cond c 20 0))) p ∙ ap (λ t. cond t 12 (cond c 20 0)) q ∙ ap (λ t. cond t 20 0) r
@@ -108,18 +109,20 @@ module _ {W : Type 0} (k : Kind W) (c : Codec W) where
       let heads : headed bs ≡ true = and-from _ _ room7 (marked-front 0x4C 0x48 (c .kind-byte ∷ n .cells ∷ n .rows ∷ n .edges / 256 ∷ n .edges % 256 ∷ (word-bytes x ++ records))) in
       let edge-bytes : 256 * (n .edges / 256) + n .edges % 256 ≡ n .edges = omega arith in
       let names : head-names (c .kind-byte) n bs ≡ true =
-          and-from _ _ (eq-eqb (c .kind-byte) (c .kind-byte) refl) (and-from _ _ (eq-eqb (n .cells) (n .cells) refl) (and-from _ _ (eq-eqb (n .rows) (n .rows) refl) (eq-eqb _ _ edge-bytes))) in
+      and-from _ _ (eq-eqb (c .kind-byte) (c .kind-byte) refl) (and-from _ _ (eq-eqb (n .cells) (n .cells) refl) (and-from _ _ (eq-eqb (n .rows) (n .rows) refl) (eq-eqb _ _ edge-bytes))) in
       let word : word-part (n .cells) (word-bytes x ++ records) ≡ Some (packed x) = ap (λ m. word-part m (word-bytes x ++ records)) (sym (ok .cells)) ∙ word-back x records in
       let part : packed-word n bs ≡ packed x = take-at (packed x) records (packed-length (n .cells)) long in
       let behind : records-part n bs ≡ records =
-          sym (drop-drop (packed-length (n .cells)) 9 bs) ∙ drop-at (packed x) records (packed-length (n .cells)) long in
+      sym (drop-drop (packed-length (n .cells)) 9 bs) ∙ drop-at (packed x) records (packed-length (n .cells)) long in
       let found : multipliers-in k c (n .edges) (records-part n bs) ≡ Some ms =
-          ap (multipliers-in k c (n .edges)) behind ∙ ap (λ m. multipliers-in k c m records) (sym (ok .edges)) ∙ multipliers-back k c ms (ok .sizes) in
+      ap (multipliers-in k c (n .edges)) behind ∙ ap (λ m. multipliers-in k c m records) (sym (ok .edges)) ∙ multipliers-back k c ms (ok .sizes) in
       let parts = no-parts-refusal (c .kind-byte) n bs heads names (ap isSome word) in
-      let same : unpacked (n .cells) (packed x) ≡ x = ap (λ m. unpacked m (packed x)) (sym (ok .cells)) ∙ unpack-pack x (bits-from x (ok .bits)) in
-      ( all-read k c n bs (records-part n bs) ms (length ms) (ok .edges) (sym parts) refl (sym (ap (λ m. multipliers-in k c m (records-part n bs)) (ok .edges) ∙ found)) .0
-      , ap (unpacked (n .cells)) part ∙ same
-      , ap or-empty found)
+      let same : unpacked (n .cells) (packed x) ≡ x = ap (λ m. unpacked m (packed x)) (sym (ok .cells)) ∙ unpack-pack x (bits-from x (ok .bits)) in (
+        ticket-length k c n x ms ∙ ap (λ m. 9 + packed-length m + length ms * (2 + c .width)) (ok .cells) ∙ ap (λ m. 9 + packed-length (n .cells) + m * (2 + c .width)) (ok .edges),
+        all-read k c n bs (records-part n bs) ms (length ms) (ok .edges) (sym parts) refl (sym (ap (λ m. multipliers-in k c m (records-part n bs)) (ok .edges) ∙ found)) .0,
+        ap (unpacked (n .cells)) part ∙ same,
+        ap or-empty found,
+      )
 
   -- the parts of a ticket that was read, put together again
   whole : (n : Counts) (bs : List ℕ) → Octets bs → (p : List ℕ) (ms : List W) → headed bs ≡ true → head-names (c .kind-byte) n bs ≡ true
@@ -139,18 +142,19 @@ module _ {W : Type 0} (k : Kind W) (c : Codec W) where
       let mo = multipliers-only k c (n .edges) (records-part n bs) ms (octets-drop (9 + pl) bs o) e in
       let mr : rs ≡ ms = ap or-empty e in
       let tail : drop 7 bs ≡ word-bytes x ++ joined (multiplier-bytes c) rs =
-          r .front ∙ ap (λ l. word-mark ++ (p ++ l)) (on ∙ mo .0 ∙ ap (joined (multiplier-bytes c)) (sym mr)) ∙ ap (λ q. word-mark ++ (q ++ joined (multiplier-bytes c) rs)) (sym px) in
+      r .front ∙ ap (λ l. word-mark ++ (p ++ l)) (on ∙ mo .0 ∙ ap (joined (multiplier-bytes c)) (sym mr)) ∙ ap (λ q. word-mark ++ (q ++ joined (multiplier-bytes c) rs)) (sym px) in
       let all : bs ≡ head-bytes (c .kind-byte) n ++ (word-bytes x ++ joined (multiplier-bytes c) rs) = head-only (c .kind-byte) n bs o h a ∙ ap (λ l. head-bytes (c .kind-byte) n ++ l) tail in
       let cells : length x ≡ n .cells = length-map-counting (cell-bit (packed-word n bs)) 0 (n .cells) in
       let bits = bits-to x (bits-unpacked (n .cells) (packed-word n bs)) in
       let long : length rs ≡ n .edges = ap length mr ∙ mo .1 in
-      let sizes : beyond k (2 ^ 18) rs ≡ false = ap (beyond k (2 ^ 18)) mr ∙ mo .2 in
-      ( all
-      , none-back (not (eqb (length x) (n .cells)) || no-bits x) (not (eqb (length rs) (n .edges)) || beyond k (2 ^ 18) rs)
-          (ltb (length bs) (length (head-bytes (c .kind-byte) n ++ (word-bytes x ++ joined (multiplier-bytes c) rs))))
-          (or-from _ _ (not-from-true _ (eq-eqb (length x) (n .cells) cells)) bits)
-          (or-from _ _ (not-from-true _ (eq-eqb (length rs) (n .edges) long)) sizes)
-          (le-ltb _ _ (omega (arith, ap length all))))
+      let sizes : beyond k (2 ^ 18) rs ≡ false = ap (beyond k (2 ^ 18)) mr ∙ mo .2 in (
+        all,
+        none-back (not (eqb (length x) (n .cells)) || no-bits x) (not (eqb (length rs) (n .edges)) || beyond k (2 ^ 18) rs)
+            (ltb (length bs) (length (head-bytes (c .kind-byte) n ++ (word-bytes x ++ joined (multiplier-bytes c) rs))))
+            (or-from _ _ (not-from-true _ (eq-eqb (length x) (n .cells) cells)) bits)
+            (or-from _ _ (not-from-true _ (eq-eqb (length rs) (n .edges) long)) sizes)
+            (le-ltb _ _ (omega (arith, ap length all))),
+      )
 
   pub only-written : OnlyWritten k c
   only-written n bs m o e =

@@ -61,6 +61,6 @@ module _ {W : Type 0} (k : Kind W) (c : Codec W) (n : Counts) (x : List ℕ) (ms
       let fb : b ≡ splice xs 0 (top ++ word-mark) = eb ∙ ap (λ l. splice l 7 word-mark) fa ∙ splice-join xs top word-mark 0 7 (omega arith) (omega arith) in
       let fd : d ≡ splice xs 0 (top ++ word-bytes x) = ed ∙ ap (λ l. splice l 9 (packed x)) fb ∙ splice-join xs (top ++ word-mark) (packed x) 0 9 (omega arith) (omega arith) in
       let fo : out ≡ splice xs 0 (top ++ (word-bytes x ++ records)) =
-          eo ∙ ap (λ l. splice l (9 + packed-length (length x)) records) fd ∙ splice-join xs (top ++ word-bytes x) records 0 (9 + packed-length (length x)) (omega arith) (omega arith) in
+      eo ∙ ap (λ l. splice l (9 + packed-length (length x)) records) fd ∙ splice-join xs (top ++ word-bytes x) records 0 (9 + packed-length (length x)) (omega arith) (omega arith) in
       let from : 0 + length (top ++ (word-bytes x ++ records)) ≡ length (top ++ (word-bytes x ++ records)) = omega arith in
       fo ∙ ap (λ m. (top ++ (word-bytes x ++ records)) ++ drop m xs) from

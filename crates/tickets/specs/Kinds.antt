@@ -62,8 +62,14 @@ plain-only bs w o e =
 
 abbrev pub plain-codec : Codec Plain
 plain-codec = record {
-  kind-byte = 0; width = 4; few-bytes = lit≤ tt; put = plain-bytes; put-length = λ w. refl; get = plain-in;
-  back = plain-back; only = plain-only;
+  kind-byte = 0;
+  width = 4;
+  few-bytes = lit≤ tt;
+  put = plain-bytes;
+  put-length = λ w. refl;
+  get = plain-in;
+  back = plain-back;
+  only = plain-only;
 }
 
 pub paired-back : (w : Paired) → paired-in (paired-bytes w) ≡ Some w
@@ -90,12 +96,18 @@ paired-only bs w o e =
     let v : part-of (drop 4 bs) ≡ w .dark = sym z ∙ ap (λ t. t .dark) (h .1) in
     let o4 : Octets (drop 4 bs) = λ i. rw getD-drop (o (4 + i)) in
     let second : drop 4 bs ≡ part-bytes (part-of (drop 4 bs)) =
-        part-only (drop 4 bs) o4 (simp length-drop (omega arith))
-        ∙ ap (λ r. part-bytes (part-of (drop 4 bs)) ++ r) (drop-all 4 (drop 4 bs) (simp length-drop (omega arith))) in
+    part-only (drop 4 bs) o4 (simp length-drop (omega arith))
+    ∙ ap (λ r. part-bytes (part-of (drop 4 bs)) ++ r) (drop-all 4 (drop 4 bs) (simp length-drop (omega arith))) in
     part-only bs o (omega arith) ∙ ap (λ r. part-bytes (part-of bs) ++ r) (second ∙ ap part-bytes v) ∙ ap (λ t. part-bytes t ++ part-bytes (w .dark)) u
 
 abbrev pub paired-codec : Codec Paired
 paired-codec = record {
-  kind-byte = 1; width = 8; few-bytes = lit≤ tt; put = paired-bytes; put-length = λ w. refl; get = paired-in;
-  back = paired-back; only = paired-only;
+  kind-byte = 1;
+  width = 8;
+  few-bytes = lit≤ tt;
+  put = paired-bytes;
+  put-length = λ w. refl;
+  get = paired-in;
+  back = paired-back;
+  only = paired-only;
 }

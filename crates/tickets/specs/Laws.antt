@@ -6,13 +6,13 @@ use lib.ListN.{length}
 use Rattle.weights.specs.Kinds.{Kind}
 use Rattle.tickets.specs.Codecs.{Codec}
 use Rattle.tickets.specs.Packs.{Octets}
-use Rattle.tickets.specs.Tickets.{Counts, ticket, write-refusal, read-refusal, word-read, multipliers-read}
+use Rattle.tickets.specs.Tickets.{Counts, ticket, ticket-size, write-refusal, read-refusal, word-read, multipliers-read}
 
--- a ticket that may be written is read, as the same word and multipliers
+-- a ticket that may be written has the size that the counts give, and is read, as the same word and multipliers
 abbrev pub ReadsBack : {W : Type 0} → Kind W → Codec W → Type 0
 ReadsBack {W} k c =
     (n : Counts) (x : List ℕ) (ms : List W) (room : ℕ) → write-refusal k c n x ms room ≡ 0
-    → (read-refusal k c n (ticket c n x ms) (length ms) ≡ 0) × (word-read n (ticket c n x ms) ≡ x) × (multipliers-read k c n (ticket c n x ms) ≡ ms)
+    → (length (ticket c n x ms) ≡ ticket-size c n) × (read-refusal k c n (ticket c n x ms) (length ms) ≡ 0) × (word-read n (ticket c n x ms) ≡ x) × (multipliers-read k c n (ticket c n x ms) ≡ ms)
 
 -- bytes that are read at all are the ticket of what is read, which may be written
 abbrev pub OnlyWritten : {W : Type 0} → Kind W → Codec W → Type 0

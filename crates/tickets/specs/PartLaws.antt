@@ -37,11 +37,11 @@ part-back z bs h = ap (toZ w32) (number-back (ofZ w32 z) (bits-below z h)) ∙ t
 
 number-only : (a b c d : ℕ) → a < 256 → b < 256 → c < 256 → d < 256 → number-bytes (a * 16777216 + b * 65536 + c * 256 + d) ≡ a ∷ b ∷ c ∷ d ∷ []
 number-only a b c d p q r s =
-   let e : (a * 16777216 + b * 65536 + c * 256 + d) / 16777216 % 256 ≡ a = omega arith in
-   let f : (a * 16777216 + b * 65536 + c * 256 + d) / 65536 % 256 ≡ b = omega arith in
-   let g : (a * 16777216 + b * 65536 + c * 256 + d) / 256 % 256 ≡ c = omega arith in
-   let i : (a * 16777216 + b * 65536 + c * 256 + d) % 256 ≡ d = omega arith in
-   cc
+    let e : (a * 16777216 + b * 65536 + c * 256 + d) / 16777216 % 256 ≡ a = omega arith in
+    let f : (a * 16777216 + b * 65536 + c * 256 + d) / 65536 % 256 ≡ b = omega arith in
+    let g : (a * 16777216 + b * 65536 + c * 256 + d) / 256 % 256 ≡ c = omega arith in
+    let i : (a * 16777216 + b * 65536 + c * 256 + d) % 256 ≡ d = omega arith in
+    cc
 
 four : (bs : List ℕ) → 4 ≤ length bs → bs ≡ getD bs 0 0 ∷ getD bs 1 0 ∷ getD bs 2 0 ∷ getD bs 3 0 ∷ drop 4 bs
 four [] h = absurd (omega arith)

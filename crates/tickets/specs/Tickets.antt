@@ -47,6 +47,10 @@ multiplier-bytes c m = multiplier-mark ++ c .put m
 unfoldable pub ticket : {W : Type 0} → Codec W → Counts → List ℕ → List W → List ℕ
 ticket c n x ms = head-bytes (c .kind-byte) n ++ (word-bytes x ++ joined (multiplier-bytes c) ms)
 
+-- how many bytes a ticket over these counts takes
+abbrev pub ticket-size : {W : Type 0} → Codec W → Counts → ℕ
+ticket-size c n = 9 + packed-length (n .cells) + n .edges * (2 + c .width)
+
 -- 13: a word that is not one bit a cell; 12: multipliers not one an edge, or beyond size 2^18; 20: an output of fewer bytes than the ticket
 abbrev pub write-refusal : {W : Type 0} → Kind W → Codec W → Counts → List ℕ → List W → ℕ → ℕ
 write-refusal k c n x ms room =

@@ -14,6 +14,8 @@ mod marks;
 mod multipliers;
 mod reader;
 mod reading;
+#[cfg(test)]
+mod tests;
 mod words;
 mod writer;
 
@@ -26,6 +28,7 @@ pub use laws::written_tickets_read_back;
 pub use reader::TicketReader;
 pub use reading::read;
 pub use words::unpack;
+pub use writer::ticket_len;
 pub use writer::write;
 
 // A kind of weights that goes on tickets. Kind byte and width are fixed for the kind.

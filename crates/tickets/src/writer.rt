@@ -6,8 +6,8 @@ ghost use lib.ListN.{length, drop};
 ghost use Rattle.refusals.specs.Numbers.{number-of};
 ghost use Rattle.std.specs.Joined.{joined};
 ghost use Rattle.std.specs.Vec.{made, refused};
-ghost use Rattle.tickets.specs.Packs.{packed-length, splice};
-ghost use Rattle.tickets.specs.Tickets.{counts, head-bytes, multiplier-bytes, ticket, write-refusal, Writable};
+ghost use Rattle.tickets.specs.Packs.{splice};
+ghost use Rattle.tickets.specs.Tickets.{counts, head-bytes, multiplier-bytes, ticket, ticket-size, write-refusal, Writable};
 use crate::TicketWeight;
 use crate::marks::HEAD_MARK;
 use crate::marks::MULTIPLIER_MARK;
@@ -65,12 +65,11 @@ fn head_of<L: Layout, W: TicketWeight>(layout: &L) -> [u8; 7]
     ]
 }
 
-fn ticket_len<W: TicketWeight>(cells: usize, edges: usize) -> usize
-    requires cells { ⌜ cells ≤ 128 ⌝ }
-    requires edges { ⌜ edges ≤ 1024 ⌝ }
-    ensures { λ r. ⌜ r ≡ 9 + packed-length cells + edges * (2 + codec .width) ⌝ }
+// How many bytes the tickets over a layout take.
+pub fn ticket_len<L: Layout, W: TicketWeight>(layout: &L) -> usize
+    ensures { λ r. ⌜ r ≡ ticket-size codec (counts (plan (now (layout .entry)))) ⌝ }
 {
-    9 + packed_len(cells) + edges * (2 + W::width() as usize)
+    9 + packed_len(layout.cells() as usize) + layout.edges() as usize * (2 + W::width() as usize)
 }
 
 // The length of the ticket, where it may be written.
@@ -90,7 +89,7 @@ fn check<L: Layout, W: TicketWeight>(
     if multipliers.len() != layout.edges() as usize || any_beyond(multipliers, MULTIPLIER_SIZE) {
         return Err(Refusal::OfferedMultipliers);
     }
-    let end = ticket_len::<W>(word.len(), multipliers.len());
+    let end = ticket_len::<L, W>(layout);
     if room < end {
         return Err(Refusal::OutputShort);
     }

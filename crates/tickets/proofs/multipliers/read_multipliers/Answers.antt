@@ -11,7 +11,7 @@ pub loop-i-again : need.loop-i-again
 loop-i-again g c =
     let one = c .in-Some .ensures tt in
     fill-step (g .W·Weight .kind) (g .W·TicketWeight .codec) (c .loop-i .work) (c .loop-i .i) (length (c .args .work .now)) (c .loop-i .left .now) (c .in-Some .first .1 .now) (c .in-Some .first .0) _
-        (search needs) (search needs) (one .0) (one .1) (c .loop-i .inv)
+    (search needs) (search needs) (one .0) (one .1) (c .loop-i .inv)
 
 pub returns : need.returns
 returns g c = fill-done (g .W·Weight .kind) (g .W·TicketWeight .codec) (c .loop-i .work) (c .loop-i .i) (length (c .args .work .now)) (c .loop-i .left .now) _ (search needs) (search needs) (c .loop-i .inv) (c .pre)

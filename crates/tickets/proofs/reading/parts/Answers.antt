@@ -35,11 +35,12 @@ returns g c =
     let word = word-front bs (c .head .last .self .bytes .now) (c .head .last .self .at) (c .cells .result) (n .cells) (mapped (λ p. p .now) (c .word .result)) same seven (c .cells .ensures) (c .word .ensures .value) in
     let found : word-part (n .cells) (drop 7 bs) ≡ Some (c .in-Some-word .word .now) = word ∙ ap (mapped (λ p. p .now)) (c .in-Some-word .is) in
     let at : c .word .last .self .at ≡ 7 + (2 + packed-length (c .cells .result)) =
-        c .word .ensures .place ∙ ap (λ o. cond (isSome o) (c .head .last .self .at + (2 + packed-length (c .cells .result))) (c .head .last .self .at)) (c .in-Some-word .is)
-        ∙ ap (λ i. i + (2 + packed-length (c .cells .result))) seven in
+    c .word .ensures .place ∙ ap (λ o. cond (isSome o) (c .head .last .self .at + (2 + packed-length (c .cells .result))) (c .head .last .self .at)) (c .in-Some-word .is)
+    ∙ ap (λ i. i + (2 + packed-length (c .cells .result))) seven in
     record {
       number = formed (g .W·TicketWeight .codec .kind-byte) n bs (c .in-Some .head) front (c .in-Some-word .word .now) (search needs) found;
-      value =
-        ( word-found n bs (c .in-Some-word .word .now) found
-        , records-found n bs (c .word .last .self .bytes .now) (c .rest .result .now) (c .word .last .self .at) (c .cells .result) (c .word .ensures .same ∙ same) (c .cells .ensures) at (c .rest .ensures .value))
+      value = (
+        word-found n bs (c .in-Some-word .word .now) found,
+        records-found n bs (c .word .last .self .bytes .now) (c .rest .result .now) (c .word .last .self .at) (c .cells .result) (c .word .ensures .same ∙ same) (c .cells .ensures) at (c .rest .ensures .value),
+      );
     }

@@ -31,11 +31,12 @@ add-at-in-loop-m g c =
 pub loop-m-again : need.loop-m-again
 loop-m-again g c =
     let codec = g .W·TicketWeight .codec in
-    let next = record-next (multiplier-bytes codec) (2 + codec .width) (bytes-length codec) (c .args .start) (c .loop-m .m-index) (c .loop-m .at) (c .loop-m .inv .0) in
-    ( ap (λ w. c .loop-m .at + (2 + w)) (c .width .ensures) ∙ next
-    , c .put-multiplier .ensures
-      ∙ record-step (multiplier-bytes codec) (2 + codec .width) (bytes-length codec) (c .args .out .now) (c .loop-m .out) (c .args .start) (c .loop-m .m-index) (c .loop-m .at)
-        (c .args .multipliers .now) (c .m-item .result) (c .loop-m-test .taken) (c .pre) (c .loop-m .inv .0) (c .m-item .is) (c .loop-m .inv .1))
+    let next = record-next (multiplier-bytes codec) (2 + codec .width) (bytes-length codec) (c .args .start) (c .loop-m .m-index) (c .loop-m .at) (c .loop-m .inv .0) in (
+      ap (λ w. c .loop-m .at + (2 + w)) (c .width .ensures) ∙ next,
+      c .put-multiplier .ensures
+          ∙ record-step (multiplier-bytes codec) (2 + codec .width) (bytes-length codec) (c .args .out .now) (c .loop-m .out) (c .args .start) (c .loop-m .m-index) (c .loop-m .at)
+          (c .args .multipliers .now) (c .m-item .result) (c .loop-m-test .taken) (c .pre) (c .loop-m .inv .0) (c .m-item .is) (c .loop-m .inv .1),
+    )
 
 pub returns : need.returns
 returns g c =

@@ -25,5 +25,5 @@ returns g c =
     let at : 9 + c .packed-len .result ≡ 9 + packed-length (length x) = ap (λ m. 9 + m) (c .packed-len .ensures) in
     let last = c .put-multipliers .ensures ∙ ap (λ m. splice (c .put-packed .last .out) m (joined (multiplier-bytes codec) ms)) at in
     let all = written kind codec n x ms out (c .place .last .out) (c .place-2 .last .out) (c .put-packed .last .out) (c .put-multipliers .last .out) (c .head-of .result)
-              (c .head-of .ensures) (c .place .ensures) (c .place-2 .ensures) (c .put-packed .ensures) last fits in
+    (c .head-of .ensures) (c .place .ensures) (c .place-2 .ensures) (c .put-packed .ensures) last fits in
     record { number = passed .number; length = long; after = all ∙ ap (λ m. ticket codec n x ms ++ drop m out) (sym long); same = tt }
