@@ -14,9 +14,8 @@ use Rattle.refusals.specs.Numbers.{number, or-else}
 use Rattle.refusals.specs.declared.Refusal.{Refusal}
 use Rattle.std.proofs.shelf.Lists.{drop-drop}
 use Rattle.std.proofs.shelf.Tests.{eq-eqb, ne-eqb}
-use Rattle.tickets.specs.Heads.{head-at, says}
 use Rattle.tickets.specs.Packs.{packed-length}
-use Rattle.tickets.specs.Tickets.{Counts, headed, head-names, word-part, packed-word, records-part, parts-refusal}
+use Rattle.tickets.specs.Tickets.{Counts, headed, head-of, head-at, says, word-part, packed-word, records-part, parts-refusal}
 use Rattle.tickets.specs.declared.head.Head.{Head}
 use Rattle.tickets.proofs.Forms.{held, word-only}
 
@@ -31,10 +30,10 @@ pub word-front : (bs b : List ℕ) (at cells n : ℕ) (o : Option (List ℕ)) �
 word-front bs b at cells n o eb ea ec e =
     sym (e ∙ ap (λ l. word-part cells (drop at l)) eb ∙ ap (λ i. word-part cells (drop i bs)) ea ∙ ap (λ m. word-part m (drop 7 bs)) ec)
 
-head-read : (kind : ℕ) (n : Counts) (bs : List ℕ) (h : Head) → head-at bs ≡ Some h → (headed bs ≡ true) × (says kind n h ≡ head-names kind n bs)
+head-read : (kind : ℕ) (n : Counts) (bs : List ℕ) (h : Head) → head-at bs ≡ Some h → (headed bs ≡ true) × (says kind n h ≡ says kind n (head-of bs))
 head-read kind n bs h e =
-    let p = held (headed bs) (Some (record { kind = getD bs 2 0; cells = getD bs 3 0; rows = getD bs 4 0; edges = 256 * getD bs 5 0 + getD bs 6 0 })) h e in
-    let is : record { kind = getD bs 2 0; cells = getD bs 3 0; rows = getD bs 4 0; edges = 256 * getD bs 5 0 + getD bs 6 0 } ≡ h = cc in
+    let p = held (headed bs) (Some (head-of bs)) h e in
+    let is : head-of bs ≡ h = cc in
     (p .0, ap (says kind n) (sym is))
 
 module _ (kind : ℕ) (n : Counts) (bs : List ℕ) (h : Head) (e : head-at bs ≡ Some h) where
@@ -42,16 +41,16 @@ module _ (kind : ℕ) (n : Counts) (bs : List ℕ) (h : Head) (e : head-at bs �
   unexpected f =
       let p = head-read kind n bs h e in
       let a = p .0 in
-      let b : head-names kind n bs ≡ false = sym (p .1) ∙ f in
-      sym (ap (λ t. cond (not t) 15 (cond (not (head-names kind n bs)) 16 (cond (isSome (word-part (n .cells) (drop 7 bs))) 0 17))) a
+      let b : says kind n (head-of bs) ≡ false = sym (p .1) ∙ f in
+      sym (ap (λ t. cond (not t) 15 (cond (not (says kind n (head-of bs))) 16 (cond (isSome (word-part (n .cells) (drop 7 bs))) 0 17))) a
       ∙ ap (λ t. cond (not t) 16 (cond (isSome (word-part (n .cells) (drop 7 bs))) 0 17)) b)
 
   known : says kind n h ≡ true → parts-refusal kind n bs ≡ cond (isSome (word-part (n .cells) (drop 7 bs))) 0 17
   known f =
       let p = head-read kind n bs h e in
       let a = p .0 in
-      let b : head-names kind n bs ≡ true = sym (p .1) ∙ f in
-      ap (λ t. cond (not t) 15 (cond (not (head-names kind n bs)) 16 (cond (isSome (word-part (n .cells) (drop 7 bs))) 0 17))) a
+      let b : says kind n (head-of bs) ≡ true = sym (p .1) ∙ f in
+      ap (λ t. cond (not t) 15 (cond (not (says kind n (head-of bs))) 16 (cond (isSome (word-part (n .cells) (drop 7 bs))) 0 17))) a
       ∙ ap (λ t. cond (not t) 16 (cond (isSome (word-part (n .cells) (drop 7 bs))) 0 17)) b
 
   pub formless : says kind n h ≡ true → word-part (n .cells) (drop 7 bs) ≡ None → 17 ≡ parts-refusal kind n bs

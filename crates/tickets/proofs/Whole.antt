@@ -19,16 +19,16 @@ use Rattle.weights.specs.Sizes.{beyond}
 use Rattle.tickets.specs.Codecs.{Codec}
 use Rattle.tickets.specs.Laws.{ReadsBack, OnlyWritten, NeverAlike}
 use Rattle.tickets.specs.Packs.{Octets, Bits, no-bits, octet, packed-length, packed, cell-bit, unpacked}
-use Rattle.tickets.specs.Tickets.{Counts, head-mark, word-mark, head-bytes, word-bytes, multiplier-bytes, ticket, write-refusal, marked, headed, head-names, word-part, multipliers-in, packed-word, word-read, records-part, or-empty, multipliers-read, parts-refusal, read-refusal}
+use Rattle.tickets.specs.Tickets.{Counts, head-mark, word-mark, head-bytes, word-bytes, multiplier-bytes, ticket, write-refusal, marked, headed, head-of, says, word-part, multipliers-in, packed-word, word-read, records-part, or-empty, multipliers-read, parts-refusal, read-refusal}
 use Rattle.tickets.proofs.Forms.{octets-drop, octets-take, marked-front, marked-only, word-back, word-only, multipliers-back, multipliers-only, ticket-length}
 use Rattle.tickets.proofs.Packing.{bits-from, bits-to, bits-unpacked, unpack-pack, pack-unpack}
 use Rattle.tickets.proofs.Written.{accepted}
 
 -- reading declines nothing
 module _ (kind : ℕ) (n : Counts) (bs : List ℕ) where
-  no-parts-refusal : headed bs ≡ true → head-names kind n bs ≡ true → isSome (word-part (n .cells) (drop 7 bs)) ≡ true → parts-refusal kind n bs ≡ 0
+  no-parts-refusal : headed bs ≡ true → says kind n (head-of bs) ≡ true → isSome (word-part (n .cells) (drop 7 bs)) ≡ true → parts-refusal kind n bs ≡ 0
   no-parts-refusal a b d =
-      ap (λ t. cond (not t) 15 (cond (not (head-names kind n bs)) 16 (cond (isSome (word-part (n .cells) (drop 7 bs))) 0 17))) a
+      ap (λ t. cond (not t) 15 (cond (not (says kind n (head-of bs))) 16 (cond (isSome (word-part (n .cells) (drop 7 bs))) 0 17))) a
       ∙ ap (λ t. cond (not t) 16 (cond (isSome (word-part (n .cells) (drop 7 bs))) 0 17)) b ∙ ap (λ t. cond t 0 17) d
 
   parts-passed : (a b d : Bool) → _≡_ {A = ℕ} (cond (not a) 15 (cond (not b) 16 (cond d 0 17))) 0 → (a ≡ true) × (b ≡ true) × (d ≡ true)
@@ -63,7 +63,7 @@ seven (a ∷ b ∷ c ∷ d ∷ e ∷ []) h = absurd (omega arith)
 seven (a ∷ b ∷ c ∷ d ∷ e ∷ f ∷ []) h = absurd (omega arith)
 seven (a ∷ b ∷ c ∷ d ∷ e ∷ f ∷ g ∷ bs) h = refl
 
-head-only : (kind : ℕ) (n : Counts) (bs : List ℕ) → Octets bs → headed bs ≡ true → head-names kind n bs ≡ true → bs ≡ head-bytes kind n ++ drop 7 bs
+head-only : (kind : ℕ) (n : Counts) (bs : List ℕ) → Octets bs → headed bs ≡ true → says kind n (head-of bs) ≡ true → bs ≡ head-bytes kind n ++ drop 7 bs
 head-only kind n bs o h e =
     let a = and-parts (leb 7 (length bs)) (marked head-mark bs) h in
     let m = and-parts (leb 2 (length bs)) (eqb (getD bs 0 0) 0x4C && eqb (getD bs 1 0) 0x48) (a .1) in
@@ -108,7 +108,7 @@ module _ {W : Type 0} (k : Kind W) (c : Codec W) where
       let room7 : leb 7 (length bs) ≡ true = le-leb _ _ (omega arith) in
       let heads : headed bs ≡ true = and-from _ _ room7 (marked-front 0x4C 0x48 (c .kind-byte ∷ n .cells ∷ n .rows ∷ n .edges / 256 ∷ n .edges % 256 ∷ (word-bytes x ++ records))) in
       let edge-bytes : 256 * (n .edges / 256) + n .edges % 256 ≡ n .edges = omega arith in
-      let names : head-names (c .kind-byte) n bs ≡ true =
+      let names : says (c .kind-byte) n (head-of bs) ≡ true =
       and-from _ _ (eq-eqb (c .kind-byte) (c .kind-byte) refl) (and-from _ _ (eq-eqb (n .cells) (n .cells) refl) (and-from _ _ (eq-eqb (n .rows) (n .rows) refl) (eq-eqb _ _ edge-bytes))) in
       let word : word-part (n .cells) (word-bytes x ++ records) ≡ Some (packed x) = ap (λ m. word-part m (word-bytes x ++ records)) (sym (ok .cells)) ∙ word-back x records in
       let part : packed-word n bs ≡ packed x = take-at (packed x) records (packed-length (n .cells)) long in
@@ -125,7 +125,7 @@ module _ {W : Type 0} (k : Kind W) (c : Codec W) where
       )
 
   -- the parts of a ticket that was read, put together again
-  whole : (n : Counts) (bs : List ℕ) → Octets bs → (p : List ℕ) (ms : List W) → headed bs ≡ true → head-names (c .kind-byte) n bs ≡ true
+  whole : (n : Counts) (bs : List ℕ) → Octets bs → (p : List ℕ) (ms : List W) → headed bs ≡ true → says (c .kind-byte) n (head-of bs) ≡ true
       → word-part (n .cells) (drop 7 bs) ≡ Some p → multipliers-in k c (n .edges) (records-part n bs) ≡ Some ms
       → (bs ≡ ticket c n (word-read n bs) (multipliers-read k c n bs)) × (write-refusal k c n (word-read n bs) (multipliers-read k c n bs) (length bs) ≡ 0)
   unfolding ticket
@@ -160,7 +160,7 @@ module _ {W : Type 0} (k : Kind W) (c : Codec W) where
   only-written n bs m o e =
       let w = work-passed (eqb m (n .edges)) _ e in
       let q = or-else-passed (parts-refusal (c .kind-byte) n bs) (cond (isSome (multipliers-in k c (n .edges) (records-part n bs))) 0 17) (eqb (parts-refusal (c .kind-byte) n bs) 0) refl (w .1) in
-      let h = parts-passed (c .kind-byte) n bs (headed bs) (head-names (c .kind-byte) n bs) (isSome (word-part (n .cells) (drop 7 bs))) (q .0) in
+      let h = parts-passed (c .kind-byte) n bs (headed bs) (says (c .kind-byte) n (head-of bs)) (isSome (word-part (n .cells) (drop 7 bs))) (q .0) in
       let word = given (word-part (n .cells) (drop 7 bs)) (h .2) in
       let ms = given (multipliers-in k c (n .edges) (records-part n bs)) (last-passed _ (q .1)) in
       whole n bs o (word .0) (ms .0) (h .0) (h .1) (word .1) (ms .1)

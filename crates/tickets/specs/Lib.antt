@@ -4,6 +4,5 @@ pub mod Tickets
 pub mod Parts
 pub mod PartLaws
 pub mod Kinds
-pub mod Heads
 pub mod Laws
 pub mod Examples

@@ -14,6 +14,7 @@ use Rattle.weights.specs.Kinds.{Kind}
 use Rattle.weights.specs.Sizes.{beyond}
 use Rattle.tickets.specs.Packs.{Bits, no-bits, packed-length, packed, unpacked, clear}
 use Rattle.tickets.specs.Codecs.{Codec}
+use Rattle.tickets.specs.declared.head.Head.{Head}
 
 -- what a head says of the layout
 pub record Counts : Type 0 where
@@ -72,9 +73,16 @@ marked mark bs = leb 2 (length bs) && (eqb (getD bs 0 0) (getD mark 0 0) && eqb 
 abbrev pub headed : List ℕ → Bool
 headed bs = leb 7 (length bs) && marked head-mark bs
 
--- whether the head names the kind and the counts
-abbrev pub head-names : ℕ → Counts → List ℕ → Bool
-head-names kind n bs = eqb (getD bs 2 0) kind && (eqb (getD bs 3 0) (n .cells) && (eqb (getD bs 4 0) (n .rows) && eqb (256 * getD bs 5 0 + getD bs 6 0) (n .edges)))
+-- what a head says, and the head at the front of bytes
+abbrev pub head-of : List ℕ → Head
+head-of bs = record { kind = getD bs 2 0; cells = getD bs 3 0; rows = getD bs 4 0; edges = 256 * getD bs 5 0 + getD bs 6 0 }
+
+abbrev pub head-at : List ℕ → Option Head
+head-at bs = cond (headed bs) (Some (head-of bs)) None
+
+-- whether a head says this kind and these counts
+abbrev pub says : ℕ → Counts → Head → Bool
+says kind n h = eqb (h .kind) kind && (eqb (h .cells) (n .cells) && (eqb (h .rows) (n .rows) && eqb (h .edges) (n .edges)))
 
 -- the packed word at the front of bytes: its mark, then the bytes of n cells, unused bits zero
 abbrev pub word-part : ℕ → List ℕ → Option (List ℕ)
@@ -122,7 +130,7 @@ multipliers-read k c n bs = or-empty (multipliers-in k c (n .edges) (records-par
 abbrev pub parts-refusal : ℕ → Counts → List ℕ → ℕ
 parts-refusal kind n bs =
     cond (not (headed bs)) 15
-    (cond (not (head-names kind n bs)) 16
+    (cond (not (says kind n (head-of bs))) 16
     (cond (isSome (word-part (n .cells) (drop 7 bs))) 0 17))
 
 -- 22: a work list of m weights is not one an edge; then 15, 16 and 17 as above, and 17 where the multipliers are not of the form

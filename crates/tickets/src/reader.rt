@@ -5,9 +5,8 @@ ghost use denote.Ref.{now};
 ghost use Prim.Native.Nat.{_+_, _≤_};
 ghost use lib.ListN.{length, drop};
 ghost use Rattle.std.specs.Options.{Cases, isSome, mapped};
-ghost use Rattle.tickets.specs.Heads.{head-at};
 ghost use Rattle.tickets.specs.Packs.{packed-length};
-ghost use Rattle.tickets.specs.Tickets.{marked, word-part};
+ghost use Rattle.tickets.specs.Tickets.{head-at, marked, word-part};
 use crate::head::Head;
 use crate::marks::HEAD_MARK;
 use crate::marks::WORD_MARK;
@@ -41,7 +40,7 @@ impl<'a> TicketReader<'a> {
     }
 
     // What lies behind the place.
-    pub fn rest(&self) -> &'a [u8]
+    fn rest(&self) -> &'a [u8]
         ensures value { λ r. ⌜ now r ≡ drop (now (self .entry) .at) (now (now (self .entry) .bytes)) ⌝ }
         ensures length { λ r. ⌜ length (now r) + now (self .entry) .at ≡ length (now (now (self .entry) .bytes)) ⌝ }
     {
@@ -85,5 +84,12 @@ impl<'a> TicketReader<'a> {
         }
         self.at += 2 + len;
         Some(packed)
+    }
+
+    // What lies behind the place: once head and word are passed, the multiplier records as one part.
+    pub fn multipliers(&self) -> &'a [u8]
+        ensures { λ r. ⌜ now r ≡ drop (now (self .entry) .at) (now (now (self .entry) .bytes)) ⌝ }
+    {
+        self.rest()
     }
 }

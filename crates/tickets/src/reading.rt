@@ -3,9 +3,8 @@ ghost use mathlib.Core.Path.{_≡_};
 ghost use lib.ListN.{length};
 ghost use Rattle.refusals.specs.Numbers.{number-of};
 ghost use Rattle.std.specs.Vec.{made, refused};
-ghost use Rattle.tickets.specs.Heads.{says};
 ghost use Rattle.tickets.specs.Packs.{unpacked};
-ghost use Rattle.tickets.specs.Tickets.{counts, packed-word, records-part, multipliers-read, ticket, parts-refusal, read-refusal};
+ghost use Rattle.tickets.specs.Tickets.{counts, says, packed-word, records-part, multipliers-read, ticket, parts-refusal, read-refusal};
 use crate::TicketWeight;
 use crate::head::Head;
 use crate::multipliers::are_multipliers;
@@ -42,7 +41,7 @@ fn parts<'a, L: Layout, W: TicketWeight>(
     let Some(word) = reader.word(layout.cells()) else {
         return Err(Refusal::TicketForm);
     };
-    Ok((word, reader.rest()))
+    Ok((word, reader.multipliers()))
 }
 
 // Reads the ticket of a word and its multipliers over this layout. The multipliers land in the work list, and the answer is

@@ -41,6 +41,6 @@ returns g c =
       number = formed (g .W·TicketWeight .codec .kind-byte) n bs (c .in-Some .head) front (c .in-Some-word .word .now) (search needs) found;
       value = (
         word-found n bs (c .in-Some-word .word .now) found,
-        records-found n bs (c .word .last .self .bytes .now) (c .rest .result .now) (c .word .last .self .at) (c .cells .result) (c .word .ensures .same ∙ same) (c .cells .ensures) at (c .rest .ensures .value),
+        records-found n bs (c .word .last .self .bytes .now) (c .multipliers .result .now) (c .word .last .self .at) (c .cells .result) (c .word .ensures .same ∙ same) (c .cells .ensures) at (c .multipliers .ensures),
       );
     }
