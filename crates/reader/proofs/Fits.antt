@@ -1,16 +1,14 @@
 -- What the checks of boards leave: lengths, sizes, and cells that exist.
-use mathlib.Core.Path.{_≡_, refl, sym, ap, subst, _∙_}
+use mathlib.Core.Path.{_≡_, refl, ap, subst}
 use mathlib.Core.Logic.{⊎-elim}
-use mathlib.Core.Bool.{Bool, true, false, cond, not, _||_}
-use mathlib.Core.List.{List, [], _∷_, _++_}
-use Prim.Native.Nat.{ℕ, zero, suc, _+_, _-_, _*_, _^_, _≤_, _<_}
-use native.Mathlib.Nat.{mul-le-mul-right}
+use mathlib.Core.Bool.{true, false}
+use mathlib.Core.List.{List, [], _∷_}
+use Prim.Native.Nat.{ℕ, suc, _-_, _^_, _≤_, _<_}
 use native.Mathlib.Omega.{arith}
 use lib.Dec.{eqb}
 use lib.ListN.{length, getD, take, drop}
 use Rattle.std.proofs.shelf.Lists.{getD-append-left, getD-append-right, length-append, length-take, length-drop}
 use Rattle.std.proofs.shelf.Tests.{cases-lt, eqb-true}
-use Rattle.std.proofs.shelf.Ways.{tells}
 use Rattle.layouts.specs.Plans.{Plan, edges, edge-cells, row-at}
 use Rattle.weights.specs.Kinds.{Kind}
 use Rattle.reader.specs.Boards.{floor-refusal, choices-refusal, Fit}

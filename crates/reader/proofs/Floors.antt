@@ -1,5 +1,5 @@
 -- The floor from its two sums.
-use mathlib.Core.Path.{_≡_, sym, ap, _∙_}
+use mathlib.Core.Path.{_≡_, _∙_}
 use mathlib.Core.List.{List}
 use Prim.Native.Nat.{ℕ, _+_, _^_, _≤_}
 use lib.IntN.{ℤ, _+ℤ_}
@@ -8,7 +8,7 @@ use Rattle.std.proofs.shelf.Lists.{length-map}
 use Rattle.layouts.specs.Plans.{edges, edge-cells}
 use Rattle.weights.specs.Kinds.{Kind, Exact, meanings}
 use Rattle.dual.specs.Choice.{negatives, pick}
-use Rattle.dual.specs.Bound.{slacks, choices, leasts, floor, trial-word}
+use Rattle.dual.specs.Bound.{slacks, choices, floor}
 use Rattle.dual.proofs.Steps.{leasts-is-pick}
 use Rattle.reader.specs.Words.{bytes, bits}
 use Rattle.reader.proofs.Turns.{bits-bytes}

@@ -1,23 +1,17 @@
 -- Sizes of the weights of a list, together: while the whole stays within the limit, every sum is exact.
-use mathlib.Core.Path.{_≡_, refl, sym, ap, subst, _∙_}
-use mathlib.Core.Bool.{Bool, true, false}
-use mathlib.Core.List.{List, [], _∷_, _++_, map}
+use mathlib.Core.Path.{_≡_, sym, ap, subst, _∙_}
+use mathlib.Core.List.{List, [], _∷_, _++_}
 use Prim.Native.Nat.{ℕ, zero, suc, _+_, _*_, _^_, _≤_, _<_}
 use native.Mathlib.Nat.{add-mul, one-mul}
 use native.Mathlib.Omega.{arith}
-use lib.Dec.{ltb}
-use lib.IntN.{ℤ, pos, _+ℤ_, _-ℤ_}
+use lib.IntN.{_-ℤ_}
 use lib.ListN.{length, getD, take, drop, set}
-use Rattle.std.proofs.shelf.Lists.{take-more, drop-more, length-map, map-set, getD-map}
-use Rattle.std.proofs.shelf.Signed.{ints}
-use Rattle.std.proofs.shelf.Tests.{ltb-false}
+use Rattle.std.proofs.shelf.Lists.{take-more, length-map, map-set}
 use Rattle.weights.specs.Kinds.{Kind, Exact, meanings}
-use Rattle.dual.specs.Choice.{taken, pick}
-use Rattle.dual.specs.Bound.{lowered, slacks}
-use Rattle.dual.proofs.Steps.{slacks-more, pick-push}
+use Rattle.dual.specs.Bound.{slacks}
+use Rattle.dual.proofs.Steps.{slacks-more}
 use Rattle.weights.specs.Sizes.{Within}
 use Rattle.reader.specs.Sizes.{total-size}
-use Rattle.reader.specs.Words.{bits, marked}
 use Rattle.reader.proofs.Rows.{meaning-at}
 
 module _ {W : Type 0} (k : Kind W) where

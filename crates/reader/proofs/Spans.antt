@@ -1,10 +1,10 @@
 -- One row more of a walk over all rows.
-use mathlib.Core.Path.{_≡_, refl, sym, ap, _∙_}
-use mathlib.Core.List.{List, [], _∷_, _++_, map}
+use mathlib.Core.Path.{_≡_, sym, ap, _∙_}
+use mathlib.Core.List.{List, [], _∷_}
 use Prim.Native.Nat.{ℕ, _+_, _-_, _≤_, _<_}
 use native.Mathlib.Omega.{arith}
 use borrow.Rule.Slice.PartMut.{putMid}
-use lib.ListN.{length, getD, take, drop, set}
+use lib.ListN.{length, take, drop, set}
 use Rattle.std.proofs.shelf.Lists.{take-all, take-map, take-more-set, drop-map, map-append}
 use Rattle.std.proofs.shelf.Parts.{take-putMid}
 use Rattle.layouts.specs.Plans.{edges, row-at}

@@ -1,10 +1,9 @@
 -- One row more in the copy of a layout.
 use mathlib.Core.Path.{_≡_, _∙_, sym, ap}
 use mathlib.Core.List.{List, [], _∷_, _++_}
-use Prim.Native.Nat.{ℕ, _+_, _≤_, _<_}
+use Prim.Native.Nat.{ℕ, _+_, _<_}
 use lib.ListN.{length, getD, take, set}
 use native.Mathlib.Nat.{add-assoc}
-use native.Mathlib.Omega.{arith}
 use Rattle.std.proofs.shelf.Lists.{append-nil, append-assoc, take-more, take-more-set}
 use Rattle.std.proofs.shelf.Edits.{fill-by-more}
 use Rattle.layouts.specs.Plans.{edge-cells, edges, row-at}

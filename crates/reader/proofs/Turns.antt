@@ -1,7 +1,7 @@
 -- One turn more of each pass over a list of weights.
-use mathlib.Core.Path.{_≡_, refl, sym, ap, subst, _∙_}
+use mathlib.Core.Path.{_≡_, refl, sym, ap, _∙_}
 use mathlib.Core.Bool.{Bool, true, false, not}
-use mathlib.Core.List.{List, [], _∷_, _++_, map}
+use mathlib.Core.List.{List, [], _∷_}
 use Prim.Native.Nat.{ℕ, zero, suc, _+_, _^_, _≤_, _<_}
 use native.Mathlib.Omega.{arith}
 use lib.Dec.{eqb}
@@ -9,9 +9,8 @@ use lib.IntN.{ℤ, pos, _+ℤ_}
 use lib.ListN.{length, getD, take, set}
 use Rattle.std.proofs.shelf.Lists.{take-all, take-more-set, length-map, map-append, map-set, getD-map}
 use Rattle.std.proofs.shelf.Signed.{ints}
-use Rattle.std.proofs.shelf.Tests.{cond-true, cond-false}
-use Rattle.std.specs.declared.option.Option.{Option}
-use Rattle.std.specs.declared.option.Option.the-variants.{Some, None}
+use Rattle.std.proofs.shelf.Tests.{cond-true}
+use Rattle.std.specs.declared.option.Option.the-variants.{Some}
 use Rattle.weights.specs.Kinds.{Kind, Exact, meanings}
 use Rattle.dual.specs.Choice.{negative, negatives, odd, taken, pick, cheaper, nearest, toggle, flipped, chosen}
 use Rattle.dual.proofs.Steps.{negatives-more, pick-push, toggle-within}

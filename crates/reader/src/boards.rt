@@ -1,6 +1,5 @@
 // The checks of a caller's boards.
 ghost use mathlib.Core.Path.{_≡_};
-ghost use lib.ListN.{length};
 ghost use Rattle.refusals.specs.Numbers.{number-of};
 ghost use Rattle.reader.specs.Boards.{floor-refusal, choices-refusal};
 use layouts::Layout;

@@ -1,7 +1,6 @@
 // The choice of one parity row: the even set of its places with the least sum of multipliers.
 ghost use mathlib.Core.Path.{_≡_};
 ghost use mathlib.Core.Bool.{true, false};
-ghost use lib.Dec.{ltb};
 ghost use lib.IntN.{natAbs};
 ghost use lib.ListN.{getD};
 ghost use Rattle.std.specs.Options.{mapped};

@@ -1,6 +1,6 @@
 // The passes over cells and edges from which the floor and a round are made. Boards are checked before.
 ghost use mathlib.Core.Path.{_≡_};
-ghost use Prim.Native.Nat.{ℕ, _+_, _*_, _^_, _<_, _≤_};
+ghost use Prim.Native.Nat.{ℕ, _+_, _^_, _<_, _≤_};
 ghost use lib.ListN.{length, getD};
 ghost use Rattle.layouts.specs.Plans.{edges};
 ghost use Rattle.weights.specs.Kinds.{meanings};

@@ -1,12 +1,12 @@
 -- What was written reads back, and nothing else is read.
 use mathlib.Core.Path.{_≡_, refl, sym, ap, _∙_, subst}
-use mathlib.Core.Bool.{Bool, true, false, cond, not, _&&_, _||_}
+use mathlib.Core.Bool.{Bool, true, false, cond, _&&_}
 use mathlib.Core.List.{List, [], _∷_, _++_}
-use mathlib.Core.Logic.{_⊎_, inl, inr}
-use Prim.Native.Nat.{ℕ, zero, suc, _+_, _*_, _/_, _%_, _^_, _≤_, _<_}
+use mathlib.Core.Logic.{inl, inr}
+use Prim.Native.Nat.{ℕ, zero, suc, _+_, _*_, _^_, _≤_, _<_}
 use native.Mathlib.Omega.{arith}
 use lib.Dec.{eqb, leb, ltb}
-use lib.ListN.{length, getD, take, drop}
+use lib.ListN.{length, take, drop}
 use Rattle.std.specs.Joined.{joined}
 use Rattle.std.specs.declared.option.Option.{Option}
 use Rattle.std.specs.declared.option.Option.the-variants.{Some, None}
@@ -17,7 +17,8 @@ use Rattle.weights.specs.Kinds.{Kind}
 use Rattle.weights.specs.Sizes.{beyond}
 use Rattle.tickets.specs.Codecs.{Codec}
 use Rattle.tickets.specs.Packs.{Octets, octet, packed-length, packed, clear}
-use Rattle.tickets.specs.Tickets.{Counts, ticket, head-mark, word-mark, multiplier-mark, word-bytes, multiplier-bytes, marked, word-part, small, multiplier-at, followed, multipliers-in}
+use Rattle.tickets.specs.Reads.{marked, word-part, small, multiplier-at, followed, multipliers-in}
+use Rattle.tickets.specs.Tickets.{Counts, ticket, word-mark, multiplier-mark, word-bytes, multiplier-bytes}
 use Rattle.tickets.proofs.Packing.{clear-packed}
 use Rattle.tickets.proofs.Splices.{joined-length}
 

@@ -1,11 +1,11 @@
 -- The parts of a ticket, found one behind the other.
-use mathlib.Core.Path.{_≡_, refl, sym, ap, _∙_, subst}
-use mathlib.Core.Bool.{Bool, true, false, cond, not, _&&_}
+use mathlib.Core.Path.{_≡_, sym, ap, _∙_}
+use mathlib.Core.Bool.{true, false, cond, not}
 use mathlib.Core.List.{List}
-use Prim.Native.Nat.{ℕ, _+_, _*_}
+use Prim.Native.Nat.{ℕ, _+_}
 use native.Mathlib.Omega.{arith}
 use lib.Dec.{eqb}
-use lib.ListN.{getD, take, drop}
+use lib.ListN.{take, drop}
 use Rattle.std.specs.Options.{isSome}
 use Rattle.std.specs.declared.option.Option.{Option}
 use Rattle.std.specs.declared.option.Option.the-variants.{Some, None}
@@ -15,7 +15,8 @@ use Rattle.refusals.specs.declared.Refusal.{Refusal}
 use Rattle.std.proofs.shelf.Lists.{drop-drop}
 use Rattle.std.proofs.shelf.Tests.{eq-eqb, ne-eqb}
 use Rattle.tickets.specs.Packs.{packed-length}
-use Rattle.tickets.specs.Tickets.{Counts, headed, head-of, head-at, says, word-part, packed-word, records-part, parts-refusal}
+use Rattle.tickets.specs.Reads.{headed, head-of, head-at, says, word-part, packed-word, records-part, parts-refusal}
+use Rattle.tickets.specs.Tickets.{Counts}
 use Rattle.tickets.specs.declared.head.Head.{Head}
 use Rattle.tickets.proofs.Forms.{held, word-only}
 

@@ -1,11 +1,11 @@
 -- Reading record by record.
-use mathlib.Core.Path.{_≡_, refl, sym, ap, _∙_, subst}
+use mathlib.Core.Path.{_≡_, refl, sym, ap, _∙_}
 use mathlib.Core.Bool.{Bool, true, false, cond, _&&_}
 use mathlib.Core.List.{List, [], _∷_, _++_}
 use Prim.Native.Nat.{ℕ, zero, suc, _+_, _-_, _≤_, _<_}
 use native.Mathlib.Omega.{arith}
 use lib.Dec.{eqb, leb}
-use lib.ListN.{length, getD, set, take, drop}
+use lib.ListN.{length, set, take, drop}
 use Rattle.std.specs.Options.{isSome}
 use Rattle.std.specs.declared.option.Option.{Option}
 use Rattle.std.specs.declared.option.Option.the-variants.{Some, None}
@@ -13,7 +13,8 @@ use Rattle.std.proofs.shelf.Lists.{append-assoc, append-nil, drop-drop, take-mo
 use Rattle.std.proofs.shelf.Tests.{le-leb, and-from, cond-true}
 use Rattle.weights.specs.Kinds.{Kind}
 use Rattle.tickets.specs.Codecs.{Codec}
-use Rattle.tickets.specs.Tickets.{multiplier-mark, marked, small, multiplier-at, followed, multipliers-in}
+use Rattle.tickets.specs.Reads.{marked, small, multiplier-at, followed, multipliers-in}
+use Rattle.tickets.specs.Tickets.{multiplier-mark}
 
 -- what was read before, and what is read behind it
 abbrev pub after : {W : Type 0} → List W → Option (List W) → Option (List W)

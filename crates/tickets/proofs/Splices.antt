@@ -1,5 +1,5 @@
 -- What was written piece behind piece is written as one.
-use mathlib.Core.Path.{_≡_, refl, sym, ap, _∙_, subst}
+use mathlib.Core.Path.{_≡_, sym, ap, _∙_}
 use mathlib.Core.List.{List, [], _∷_, _++_}
 use Prim.Native.Nat.{ℕ, _+_, _-_, _*_, _≤_, _<_}
 use native.Mathlib.Nat.{add-zero, zero-mul, suc-mul, add-mul, one-mul}
@@ -7,7 +7,7 @@ use native.Mathlib.Omega.{arith}
 use lib.ListN.{length, getD, take, drop}
 use Rattle.std.specs.Joined.{joined}
 use Rattle.std.proofs.shelf.Bits.{mul-le}
-use Rattle.std.proofs.shelf.Lists.{append-assoc, length-append, length-drop, length-take-le, take-at, drop-at, drop-drop, take-append-drop, take-more, joined-more}
+use Rattle.std.proofs.shelf.Lists.{append-assoc, length-append, length-take-le, take-at, drop-at, drop-drop, take-append-drop, take-more, joined-more}
 use Rattle.tickets.specs.Packs.{splice}
 
 module _ {A : Type 0} where

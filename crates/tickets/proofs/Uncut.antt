@@ -1,15 +1,14 @@
 -- A weight made of the parts that were read is theirs exactly where making it cut nothing.
-use mathlib.Core.Path.{_≡_, refl, sym, ap, _∙_, subst}
-use mathlib.Core.Bool.{Bool, true, false, cond, _&&_}
+use mathlib.Core.Path.{_≡_, sym, ap, _∙_, subst}
+use mathlib.Core.Bool.{true, false, cond, _&&_}
 use mathlib.Core.List.{List}
 use mathlib.Core.Logic.{_⊎_, inl, inr}
 use Prim.Native.Nat.{ℕ, _^_, _≤_}
 use native.Mathlib.Omega.{arith}
-use lib.Dec.{eqb, leb}
+use lib.Dec.{eqb}
 use lib.IntN.{ℤ, natAbs}
 use lib.ListN.{length, drop}
-use Rattle.std.proofs.shelf.Tests.{eq-eqb, le-leb, lt-leb, leb-true, cases-bool}
-use Rattle.std.specs.declared.option.Option.{Option}
+use Rattle.std.proofs.shelf.Tests.{eq-eqb, le-leb, leb-true, cases-bool}
 use Rattle.std.specs.declared.option.Option.the-variants.{Some, None}
 use Rattle.weights.proofs.Cuts.{uncut, plain-path, paired-path}
 use Rattle.weights.specs.Paireds.{paired-of}

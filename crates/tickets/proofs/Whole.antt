@@ -2,7 +2,7 @@
 use mathlib.Core.Path.{_≡_, refl, sym, ap, _∙_, subst}
 use mathlib.Core.Bool.{Bool, true, false, cond, not, _&&_, _||_}
 use mathlib.Core.List.{List, [], _∷_, _++_}
-use Prim.Native.Nat.{ℕ, _+_, _*_, _/_, _%_, _^_, _≤_, _<_}
+use Prim.Native.Nat.{ℕ, _+_, _*_, _/_, _%_, _^_, _≤_}
 use native.Mathlib.Omega.{arith}
 use lib.Dec.{eqb, leb, ltb}
 use lib.ListN.{length, getD, take, drop}
@@ -12,15 +12,16 @@ use Rattle.std.specs.Options.{isSome}
 use Rattle.std.specs.declared.option.Option.{Option}
 use Rattle.std.specs.declared.option.Option.the-variants.{Some, None}
 use Rattle.std.proofs.shelf.Counted.{length-map-counting}
-use Rattle.std.proofs.shelf.Lists.{length-append, take-at, drop-at, drop-drop}
-use Rattle.std.proofs.shelf.Tests.{le-leb, leb-true, le-ltb, eq-eqb, eqb-true, and-from, and-parts, or-from, not-false, not-from-true}
+use Rattle.std.proofs.shelf.Lists.{take-at, drop-at, drop-drop}
+use Rattle.std.proofs.shelf.Tests.{le-leb, leb-true, le-ltb, eq-eqb, eqb-true, and-from, and-parts, or-from, not-from-true}
 use Rattle.weights.specs.Kinds.{Kind}
 use Rattle.weights.specs.Sizes.{beyond}
 use Rattle.tickets.specs.Codecs.{Codec}
 use Rattle.tickets.specs.Laws.{ReadsBack, OnlyWritten, NeverAlike}
-use Rattle.tickets.specs.Packs.{Octets, Bits, no-bits, octet, packed-length, packed, cell-bit, unpacked}
-use Rattle.tickets.specs.Tickets.{Counts, head-mark, word-mark, head-bytes, word-bytes, multiplier-bytes, ticket, write-refusal, marked, headed, head-of, says, word-part, multipliers-in, packed-word, word-read, records-part, or-empty, multipliers-read, parts-refusal, read-refusal}
-use Rattle.tickets.proofs.Forms.{octets-drop, octets-take, marked-front, marked-only, word-back, word-only, multipliers-back, multipliers-only, ticket-length}
+use Rattle.tickets.specs.Packs.{Octets, no-bits, octet, packed-length, packed, cell-bit, unpacked}
+use Rattle.tickets.specs.Reads.{marked, headed, head-of, says, word-part, multipliers-in, packed-word, word-read, records-part, or-empty, multipliers-read, parts-refusal, read-refusal}
+use Rattle.tickets.specs.Tickets.{Counts, head-mark, word-mark, head-bytes, word-bytes, multiplier-bytes, ticket, write-refusal}
+use Rattle.tickets.proofs.Forms.{octets-drop, octets-take, marked-front, word-back, word-only, multipliers-back, multipliers-only, ticket-length}
 use Rattle.tickets.proofs.Packing.{bits-from, bits-to, bits-unpacked, unpack-pack, pack-unpack}
 use Rattle.tickets.proofs.Written.{accepted}
 

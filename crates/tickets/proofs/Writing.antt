@@ -1,14 +1,14 @@
 -- Writing piece behind piece.
-use mathlib.Core.Path.{_≡_, refl, sym, ap, _∙_, subst}
+use mathlib.Core.Path.{_≡_, sym, ap, _∙_}
 use mathlib.Core.Bool.{_||_}
-use mathlib.Core.List.{List, [], _∷_, _++_}
-use Prim.Native.Nat.{ℕ, zero, suc, _+_, _*_, _≤_, _<_}
+use mathlib.Core.List.{List, _++_}
+use Prim.Native.Nat.{ℕ, _+_, _≤_, _<_}
 use native.Mathlib.Omega.{arith}
 use lib.Dec.{ltb}
 use lib.ListN.{length, getD, set, take, drop}
 use lib.Seq.{paste}
 use Rattle.std.proofs.shelf.Counted.{length-map-counting, getD-map-counting}
-use Rattle.std.proofs.shelf.Edits.{paste-none, paste-more, paste-all}
+use Rattle.std.proofs.shelf.Edits.{paste-more, paste-all}
 use Rattle.std.proofs.shelf.Lists.{drop-more}
 use Rattle.tickets.specs.Packs.{no-bits, octet, packed-length, packed, splice}
 

@@ -1,23 +1,21 @@
 -- What the writer puts out is the ticket.
-use mathlib.Core.Path.{_≡_, refl, sym, ap, _∙_, subst}
+use mathlib.Core.Path.{_≡_, refl, ap, _∙_}
 use mathlib.Core.Bool.{Bool, true, false, cond, not, _||_}
-use mathlib.Core.List.{List, [], _∷_, _++_}
-use Prim.Native.Nat.{ℕ, _+_, _*_, _^_, _≤_, _<_}
+use mathlib.Core.List.{List, _++_}
+use Prim.Native.Nat.{ℕ, _+_, _^_, _≤_}
 use native.Mathlib.Omega.{arith}
-use lib.Dec.{eqb, leb, ltb}
+use lib.Dec.{eqb, ltb}
 use lib.ListN.{length, drop}
 use Rattle.std.specs.Joined.{joined}
 use Rattle.std.proofs.shelf.Counted.{length-map-counting}
-use Rattle.std.proofs.shelf.Lists.{append-assoc, length-append}
+use Rattle.std.proofs.shelf.Lists.{length-append}
 use Rattle.std.proofs.shelf.Tests.{or-parts, not-false, eqb-true, ltb-false}
 use Rattle.weights.specs.Kinds.{Kind}
 use Rattle.weights.specs.Sizes.{beyond}
 use Rattle.tickets.specs.Codecs.{Codec}
-use Rattle.tickets.specs.Packs.{Bits, no-bits, octet, packed-length, packed, splice}
+use Rattle.tickets.specs.Packs.{no-bits, octet, packed-length, packed, splice}
 use Rattle.tickets.specs.Tickets.{Counts, head-bytes, word-mark, word-bytes, multiplier-bytes, ticket, write-refusal}
-use Rattle.tickets.proofs.Forms.{bytes-length, ticket-length}
-use Rattle.tickets.proofs.Packing.{bits-from}
-use Rattle.tickets.proofs.Splices.{splice-join, joined-length}
+use Rattle.tickets.proofs.Splices.{splice-join}
 
 none-of : (a b c : Bool) → _≡_ {A = ℕ} (cond a 13 (cond b 12 (cond c 20 0))) 0 → (a ≡ false) × (b ≡ false) × (c ≡ false)
 none-of true b c e = absurd (omega arith)

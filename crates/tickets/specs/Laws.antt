@@ -6,7 +6,8 @@ use lib.ListN.{length}
 use Rattle.weights.specs.Kinds.{Kind}
 use Rattle.tickets.specs.Codecs.{Codec}
 use Rattle.tickets.specs.Packs.{Octets}
-use Rattle.tickets.specs.Tickets.{Counts, ticket, ticket-size, write-refusal, read-refusal, word-read, multipliers-read}
+use Rattle.tickets.specs.Reads.{read-refusal, word-read, multipliers-read}
+use Rattle.tickets.specs.Tickets.{Counts, ticket, ticket-size, write-refusal}
 
 -- a ticket that may be written has the size that the counts give, and is read, as the same word and multipliers
 abbrev pub ReadsBack : {W : Type 0} → Kind W → Codec W → Type 0

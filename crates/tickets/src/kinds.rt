@@ -2,9 +2,9 @@
 ghost use mathlib.Core.Path.{_≡_};
 ghost use mathlib.Core.List.{_++_};
 ghost use Prim.Native.Nat.{_+_, _≤_};
-ghost use lib.ListN.{length, take, drop};
-ghost use Rattle.tickets.specs.Parts.{part-bytes, part-of};
-ghost use Rattle.tickets.specs.Kinds.{plain-codec, paired-codec, plain-in, paired-in};
+ghost use lib.ListN.{length, take, drop, replicate};
+ghost use Rattle.tickets.specs.Parts.{part-of};
+ghost use Rattle.tickets.specs.Kinds.{plain-codec, plain-bytes, paired-codec, paired-bytes};
 use crate::TicketWeight;
 use weights::Paired;
 use weights::PairedWeight;
@@ -30,7 +30,10 @@ pub impl TicketWeight for Plain as PlainTicketWeight {
         4
     }
 
-    fn bytes(self) -> [u8; 64] {
+    fn bytes(self) -> [u8; 64]
+        ensures front { λ r. ⌜ take (plain-codec .width) r ≡ plain-codec .put self ⌝ }
+        ensures whole { λ r. ⌜ r ≡ plain-bytes self ++ replicate 60 0 ⌝ }
+    {
         let mut all = [0; 64];
         all[0..4].copy_from_slice(&self.value().to_be_bytes());
         all
@@ -61,7 +64,10 @@ pub impl TicketWeight for Paired as PairedTicketWeight {
         8
     }
 
-    fn bytes(self) -> [u8; 64] {
+    fn bytes(self) -> [u8; 64]
+        ensures front { λ r. ⌜ take (paired-codec .width) r ≡ paired-codec .put self ⌝ }
+        ensures whole { λ r. ⌜ r ≡ paired-bytes self ++ replicate 56 0 ⌝ }
+    {
         let mut all = [0; 64];
         all[0..4].copy_from_slice(&self.grey().to_be_bytes());
         all[4..8].copy_from_slice(&self.dark().to_be_bytes());

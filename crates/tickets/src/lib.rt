@@ -47,7 +47,7 @@ pub trait TicketWeight: Weight {
 
     // The bytes of this weight, at the front.
     fn bytes(self) -> [u8; 64]
-        ensures { λ r. ⌜ take (codec .width) r ≡ codec .put self ⌝ };
+        ensures front { λ r. ⌜ take (codec .width) r ≡ codec .put self ⌝ };
 
     // The one weight whose bytes these are, or none.
     fn from_bytes(bytes: &[u8]) -> Option<Self>

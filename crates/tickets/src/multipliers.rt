@@ -5,7 +5,7 @@ ghost use Prim.Native.Nat.{_+_};
 ghost use lib.ListN.{length, drop};
 ghost use Rattle.std.specs.Options.{Cases, isSome};
 ghost use Rattle.std.specs.declared.option.Option.the-variants.{Some, None};
-ghost use Rattle.tickets.specs.Tickets.{small, multiplier-at, multipliers-in};
+ghost use Rattle.tickets.specs.Reads.{small, multiplier-at, multipliers-in};
 use crate::TicketWeight;
 use crate::marks::MULTIPLIER_MARK;
 use crate::reader::behind_mark;

@@ -6,7 +6,7 @@ ghost use Prim.Native.Nat.{_+_, _≤_};
 ghost use lib.ListN.{length, drop};
 ghost use Rattle.std.specs.Options.{Cases, isSome, mapped};
 ghost use Rattle.tickets.specs.Packs.{packed-length};
-ghost use Rattle.tickets.specs.Tickets.{head-at, marked, word-part};
+ghost use Rattle.tickets.specs.Reads.{head-at, marked, word-part};
 use crate::head::Head;
 use crate::marks::HEAD_MARK;
 use crate::marks::WORD_MARK;

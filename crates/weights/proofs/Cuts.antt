@@ -3,7 +3,7 @@ use mathlib.Core.Path.{_≡_, ap, subst, sym, _∙_}
 use Prim.Native.Nat.{ℕ, _+_, _≤_, _<_, _^_}
 use native.Mathlib.Omega.{arith}
 use denote.Struct.Props.{props}
-use lib.IntN.{ℤ, pos, natAbs, _+ℤ_, _-ℤ_}
+use lib.IntN.{ℤ, natAbs, _+ℤ_, _-ℤ_}
 use Rattle.std.proofs.shelf.Signed.{ints, clamps}
 use Rattle.weights.specs.Kinds.{Exact}
 use Rattle.weights.specs.Paireds.{paired-kind}

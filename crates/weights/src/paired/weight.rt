@@ -1,7 +1,7 @@
 // A paired weight as a weight: its size is that of its larger part, and parts are added, moved and cut each by itself.
 ghost use mathlib.Core.Path.{_≡_};
 ghost use Prim.Native.Nat.{_^_};
-ghost use lib.IntN.{pos, _+ℤ_, _-ℤ_};
+ghost use lib.IntN.{_+ℤ_, _-ℤ_};
 ghost use Rattle.weights.specs.Kinds.{Exact};
 ghost use Rattle.weights.specs.Parts.{cut, stepped};
 ghost use Rattle.weights.specs.Paireds.{paired-kind};

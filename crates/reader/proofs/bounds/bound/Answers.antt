@@ -1,8 +1,7 @@
 use borrow.Author.Needs.{needs}
 use native.Mathlib.Omega.{arith}
-use mathlib.Core.Path.{_≡_, ap, sym, _∙_}
+use mathlib.Core.Path.{ap, _∙_}
 use Prim.Native.Nat.{_+_, _^_, _≤_}
-use lib.ListN.{length}
 use Rattle.dual.specs.Choice.{negatives}
 use Rattle.reader.specs.Words.{bytes}
 use Rattle.reader.proofs.Fits.{multipliers-total}

@@ -1,6 +1,4 @@
-use borrow.Author.Needs.{needs}
-use native.Mathlib.Omega.{arith}
-use mathlib.Core.Path.{_≡_, ap, sym, subst, _∙_}
+use mathlib.Core.Path.{ap, sym, subst, _∙_}
 use lib.ListN.{length}
 use Prim.Native.Nat.{_≤_, _^_}
 use Rattle.reader.specs.Sizes.{total-size}

@@ -1,11 +1,5 @@
-use borrow.Author.Needs.{needs}
-use mathlib.Core.Path.{_≡_, sym, ap, subst, _∙_}
-use mathlib.Core.Bool.{Bool, not}
-use mathlib.Core.List.{List}
-use native.Mathlib.Omega.{arith}
+use mathlib.Core.Path.{sym, ap, subst, _∙_}
 use Rattle.std.specs.Options.{mapped}
-use Rattle.dual.specs.Choice.{negative}
-use Rattle.weights.specs.Kinds.{Kind}
 use Rattle.reader.specs.Spots.{spot, OfSign}
 use Rattle.reader.proofs.Rows.{nearest-takes, nearest-passes, nearest-done, of-sign, of-other-sign}
 use Rattle.reader.proofs.choice.nearest.Needs as need

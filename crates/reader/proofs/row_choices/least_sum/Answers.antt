@@ -1,4 +1,4 @@
-use mathlib.Core.Path.{_≡_, ap, _∙_}
+use mathlib.Core.Path.{ap, _∙_}
 use Rattle.weights.specs.Kinds.{meanings}
 use Rattle.dual.specs.Choice.{chosen, pick}
 use Rattle.reader.specs.Words.{bits}

@@ -1,6 +1,6 @@
 use mathlib.Core.Path.{_≡_}
 use Rattle.std.specs.Options.{isSome}
-use Rattle.tickets.specs.Tickets.{multipliers-in}
+use Rattle.tickets.specs.Reads.{multipliers-in}
 use Rattle.tickets.proofs.multipliers.are_multipliers.Given as given
 
 abbrev pub Inv-loop-missing : given.InvT-loop-missing

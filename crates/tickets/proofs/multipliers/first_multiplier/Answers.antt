@@ -1,4 +1,3 @@
-use borrow.Author.Needs.{needs}
 use mathlib.Core.Path.{sym, _∙_}
 use Rattle.tickets.proofs.Records.{first-is}
 use Rattle.tickets.proofs.multipliers.first_multiplier.Needs as need

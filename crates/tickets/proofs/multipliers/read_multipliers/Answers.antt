@@ -1,6 +1,5 @@
 use borrow.Author.Needs.{needs}
 use lib.ListN.{length, take}
-use Rattle.tickets.specs.Tickets.{multipliers-in}
 use Rattle.tickets.proofs.Records.{fill-step, fill-stop, fill-done}
 use Rattle.tickets.proofs.multipliers.read_multipliers.Needs as need
 

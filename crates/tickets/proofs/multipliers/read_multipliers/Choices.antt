@@ -1,7 +1,7 @@
 use mathlib.Core.Path.{_≡_}
 use Prim.Native.Nat.{_-_}
 use lib.ListN.{length, take}
-use Rattle.tickets.specs.Tickets.{multipliers-in}
+use Rattle.tickets.specs.Reads.{multipliers-in}
 use Rattle.tickets.proofs.Records.{after}
 use Rattle.tickets.proofs.multipliers.read_multipliers.Given as given
 

@@ -1,12 +1,13 @@
 use borrow.Author.Needs.{needs}
-use mathlib.Core.Path.{_≡_, refl, sym, ap, _∙_}
+use mathlib.Core.Path.{_≡_, ap, _∙_}
 use mathlib.Core.Bool.{cond}
 use Prim.Native.Nat.{_+_}
 use lib.ListN.{drop}
 use Rattle.std.specs.Options.{isSome, mapped}
-use Rattle.std.specs.declared.option.Option.the-variants.{Some, None}
+use Rattle.std.specs.declared.option.Option.the-variants.{Some}
 use Rattle.tickets.specs.Packs.{packed-length}
-use Rattle.tickets.specs.Tickets.{counts, word-part}
+use Rattle.tickets.specs.Reads.{word-part}
+use Rattle.tickets.specs.Tickets.{counts}
 use Rattle.tickets.proofs.Parted.{head-front, head-passed, word-front, unexpected, formless, formed, word-found, records-found}
 use Rattle.tickets.proofs.reading.parts.Needs as need
 

@@ -4,7 +4,8 @@ use lib.ListN.{length}
 use Rattle.layouts.specs.Plans.{edges}
 use Rattle.std.proofs.shelf.Results.{err-from-errBy}
 use Rattle.tickets.specs.Packs.{unpacked}
-use Rattle.tickets.specs.Tickets.{counts, ticket, multipliers-read}
+use Rattle.tickets.specs.Reads.{multipliers-read}
+use Rattle.tickets.specs.Tickets.{counts, ticket}
 use Rattle.tickets.proofs.Whole.{all-read, only-written}
 use Rattle.tickets.proofs.Parted.{other-length, parts-decline}
 use Rattle.tickets.proofs.reading.read.Needs as need

@@ -1,6 +1,4 @@
 use borrow.Author.Needs.{needs}
-use mathlib.Core.Path.{_∙_}
-use Rattle.std.proofs.shelf.Tests.{le-ltb}
 use Rattle.reader.proofs.Rows.{takes-at, takes-past}
 use Rattle.reader.proofs.choice.RowChoice.takes.Needs as need
 
