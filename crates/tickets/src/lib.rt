@@ -20,6 +20,8 @@ mod words;
 mod writer;
 
 pub use head::Head;
+pub use head::HeadDebug;
+pub use head::HeadPartialEq;
 pub use kinds::PairedTicketWeight;
 pub use kinds::PlainTicketWeight;
 pub use laws::only_written_tickets_are_read;
