@@ -1,6 +1,6 @@
 -- What was written reads back, and nothing else is read.
 use mathlib.Core.Path.{_≡_, refl, sym, ap, _∙_, subst}
-use mathlib.Core.Bool.{Bool, true, false, cond, _&&_}
+use mathlib.Core.Bool.{true, false, _&&_}
 use mathlib.Core.List.{List, [], _∷_, _++_}
 use mathlib.Core.Logic.{inl, inr}
 use Prim.Native.Nat.{ℕ, zero, suc, _+_, _*_, _^_, _≤_, _<_}
@@ -16,6 +16,7 @@ use Rattle.std.proofs.shelf.Tests.{le-leb, leb-true, le-ltb, eq-eqb, eqb-true, 
 use Rattle.weights.specs.Kinds.{Kind}
 use Rattle.weights.specs.Sizes.{beyond}
 use Rattle.tickets.specs.Codecs.{Codec}
+use Rattle.tickets.specs.PartLaws.{held}
 use Rattle.tickets.specs.Packs.{Octets, octet, packed-length, packed, clear}
 use Rattle.tickets.specs.Reads.{marked, word-part, small, multiplier-at, followed, multipliers-in}
 use Rattle.tickets.specs.Tickets.{Counts, ticket, word-mark, multiplier-mark, word-bytes, multiplier-bytes}
@@ -44,11 +45,6 @@ marked-only a b (x ∷ y ∷ bs) e =
     let f = eqb-true x a (q .0) in
     let g = eqb-true y b (q .1) in
     cc
-
--- a choice that came out as some value
-pub held : {X : Type 0} (b : Bool) (o : Option X) (w : X) → cond b o None ≡ Some w → (b ≡ true) × (o ≡ Some w)
-held true o w e = (refl, e)
-held false o w e = absurd (let z : _≡_ {A = ℕ} 0 1 = cc in omega arith)
 
 followed-only : {X : Type 0} (o : Option X) (p : Option (List X)) (ws : List X) → followed o p ≡ Some ws → (w : X) × ((us : List X) × (o ≡ Some w) × (p ≡ Some us) × (w ∷ us ≡ ws))
 followed-only (Some w) (Some us) ws e = (w, (us, refl, refl, (let r : w ∷ us ≡ ws = cc in r)))

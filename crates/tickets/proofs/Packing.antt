@@ -24,39 +24,38 @@ pub bits-to : (x : List ℕ) → Bits x → no-bits x ≡ false
 bits-to [] h = refl
 bits-to (b ∷ x) h = ap (λ t. t || no-bits x) (le-ltb 1 b (h 0)) ∙ bits-to x (λ k. h (suc k))
 
--- the bit at place r of eight
-module _ (a b c d e f g h : ℕ) (pa : a ≤ 1) (pb : b ≤ 1) (pc : c ≤ 1) (pd : d ≤ 1) (pe : e ≤ 1) (pf : f ≤ 1) (pg : g ≤ 1) (ph : h ≤ 1) where
-  eight-bits : (r : ℕ) → r < 8 → (128 * a + 64 * b + 32 * c + 16 * d + 8 * e + 4 * f + 2 * g + h) / 2 ^ (7 - r) % 2 ≡ getD (a ∷ b ∷ c ∷ d ∷ e ∷ f ∷ g ∷ h ∷ []) r 0
-  eight-bits zero l = omega arith
-  eight-bits (suc zero) l = omega arith
-  eight-bits (suc (suc zero)) l = omega arith
-  eight-bits (suc (suc (suc zero))) l = omega arith
-  eight-bits (suc (suc (suc (suc zero)))) l = omega arith
-  eight-bits (suc (suc (suc (suc (suc zero))))) l = omega arith
-  eight-bits (suc (suc (suc (suc (suc (suc zero)))))) l = omega arith
-  eight-bits (suc (suc (suc (suc (suc (suc (suc zero))))))) l = omega arith
-  eight-bits (suc (suc (suc (suc (suc (suc (suc (suc r)))))))) l = absurd (omega arith)
+-- the eight cells of byte j
+eight : List ℕ → ℕ → List ℕ
+eight x j = getD x (8 * j) 0 ∷ getD x (8 * j + 1) 0 ∷ getD x (8 * j + 2) 0 ∷ getD x (8 * j + 3) 0 ∷ getD x (8 * j + 4) 0 ∷ getD x (8 * j + 5) 0 ∷ getD x (8 * j + 6) 0 ∷ getD x (8 * j + 7) 0 ∷ []
 
-module _ (a b c d e f g h : ℕ) where
-  eight-places : (x : List ℕ) (j : ℕ) → a ≡ getD x (8 * j) 0 → b ≡ getD x (8 * j + 1) 0 → c ≡ getD x (8 * j + 2) 0 → d ≡ getD x (8 * j + 3) 0 → e ≡ getD x (8 * j + 4) 0 → f ≡ getD x (8 * j + 5) 0 → g ≡ getD x (8 * j + 6) 0 → h ≡ getD x (8 * j + 7) 0
-      → (r : ℕ) → r < 8 → getD (a ∷ b ∷ c ∷ d ∷ e ∷ f ∷ g ∷ h ∷ []) r 0 ≡ getD x (8 * j + r) 0
-  eight-places x j qa qb qc qd qe qf qg qh zero l = qa ∙ ap (λ k. getD x k 0) (sym (add-zero (8 * j)))
-  eight-places x j qa qb qc qd qe qf qg qh (suc zero) l = qb
-  eight-places x j qa qb qc qd qe qf qg qh (suc (suc zero)) l = qc
-  eight-places x j qa qb qc qd qe qf qg qh (suc (suc (suc zero))) l = qd
-  eight-places x j qa qb qc qd qe qf qg qh (suc (suc (suc (suc zero)))) l = qe
-  eight-places x j qa qb qc qd qe qf qg qh (suc (suc (suc (suc (suc zero))))) l = qf
-  eight-places x j qa qb qc qd qe qf qg qh (suc (suc (suc (suc (suc (suc zero)))))) l = qg
-  eight-places x j qa qb qc qd qe qf qg qh (suc (suc (suc (suc (suc (suc (suc zero))))))) l = qh
-  eight-places x j qa qb qc qd qe qf qg qh (suc (suc (suc (suc (suc (suc (suc (suc r)))))))) l = absurd (omega arith)
+eight-at : (x : List ℕ) (j r : ℕ) → r < 8 → getD (eight x j) r 0 ≡ getD x (8 * j + r) 0
+unfolding eight
+eight-at x j zero h = ap (λ k. getD x k 0) (sym (add-zero (8 * j)))
+eight-at x j (suc zero) h = refl
+eight-at x j (suc (suc zero)) h = refl
+eight-at x j (suc (suc (suc zero))) h = refl
+eight-at x j (suc (suc (suc (suc zero)))) h = refl
+eight-at x j (suc (suc (suc (suc (suc zero))))) h = refl
+eight-at x j (suc (suc (suc (suc (suc (suc zero)))))) h = refl
+eight-at x j (suc (suc (suc (suc (suc (suc (suc zero))))))) h = refl
+eight-at x j (suc (suc (suc (suc (suc (suc (suc (suc r)))))))) h = absurd (omega arith)
 
 -- the bit of a cell in the byte of its eight
-octet-bit : (x : List ℕ) → Bits x → (j r : ℕ) → r < 8 → octet x j / 2 ^ (7 - r) % 2 ≡ getD x (8 * j + r) 0
-octet-bit x o j r h =
-    eight-bits (getD x (8 * j) 0) (getD x (8 * j + 1) 0) (getD x (8 * j + 2) 0) (getD x (8 * j + 3) 0) (getD x (8 * j + 4) 0) (getD x (8 * j + 5) 0) (getD x (8 * j + 6) 0) (getD x (8 * j + 7) 0)
-    (o (8 * j)) (o (8 * j + 1)) (o (8 * j + 2)) (o (8 * j + 3)) (o (8 * j + 4)) (o (8 * j + 5)) (o (8 * j + 6)) (o (8 * j + 7)) r h
-    ∙ eight-places (getD x (8 * j) 0) (getD x (8 * j + 1) 0) (getD x (8 * j + 2) 0) (getD x (8 * j + 3) 0) (getD x (8 * j + 4) 0) (getD x (8 * j + 5) 0) (getD x (8 * j + 6) 0) (getD x (8 * j + 7) 0)
-    x j refl refl refl refl refl refl refl refl r h
+module _ (x : List ℕ) (o : Bits x) (j : ℕ) where
+  eight-bits : (r : ℕ) → r < 8 → octet x j / 2 ^ (7 - r) % 2 ≡ getD (eight x j) r 0
+  unfolding eight
+  eight-bits zero h = omega (arith, o (8 * j), o (8 * j + 1), o (8 * j + 2), o (8 * j + 3), o (8 * j + 4), o (8 * j + 5), o (8 * j + 6), o (8 * j + 7))
+  eight-bits (suc zero) h = omega (arith, o (8 * j), o (8 * j + 1), o (8 * j + 2), o (8 * j + 3), o (8 * j + 4), o (8 * j + 5), o (8 * j + 6), o (8 * j + 7))
+  eight-bits (suc (suc zero)) h = omega (arith, o (8 * j), o (8 * j + 1), o (8 * j + 2), o (8 * j + 3), o (8 * j + 4), o (8 * j + 5), o (8 * j + 6), o (8 * j + 7))
+  eight-bits (suc (suc (suc zero))) h = omega (arith, o (8 * j), o (8 * j + 1), o (8 * j + 2), o (8 * j + 3), o (8 * j + 4), o (8 * j + 5), o (8 * j + 6), o (8 * j + 7))
+  eight-bits (suc (suc (suc (suc zero)))) h = omega (arith, o (8 * j), o (8 * j + 1), o (8 * j + 2), o (8 * j + 3), o (8 * j + 4), o (8 * j + 5), o (8 * j + 6), o (8 * j + 7))
+  eight-bits (suc (suc (suc (suc (suc zero))))) h = omega (arith, o (8 * j), o (8 * j + 1), o (8 * j + 2), o (8 * j + 3), o (8 * j + 4), o (8 * j + 5), o (8 * j + 6), o (8 * j + 7))
+  eight-bits (suc (suc (suc (suc (suc (suc zero)))))) h = omega (arith, o (8 * j), o (8 * j + 1), o (8 * j + 2), o (8 * j + 3), o (8 * j + 4), o (8 * j + 5), o (8 * j + 6), o (8 * j + 7))
+  eight-bits (suc (suc (suc (suc (suc (suc (suc zero))))))) h = omega (arith, o (8 * j), o (8 * j + 1), o (8 * j + 2), o (8 * j + 3), o (8 * j + 4), o (8 * j + 5), o (8 * j + 6), o (8 * j + 7))
+  eight-bits (suc (suc (suc (suc (suc (suc (suc (suc r)))))))) h = absurd (omega arith)
+
+  octet-bit : (r : ℕ) → r < 8 → octet x j / 2 ^ (7 - r) % 2 ≡ getD x (8 * j + r) 0
+  octet-bit r h = eight-bits r h ∙ eight-at x j r h
 
 pub unpack-pack : (x : List ℕ) → Bits x → unpacked (length x) (packed x) ≡ x
 unpack-pack x o = sym (fill-by-all (cell-bit (packed x)) x (length x) 0 refl each)
@@ -67,19 +66,18 @@ unpack-pack x o = sym (fill-by-all (cell-bit (packed x)) x (length x) 0 refl eac
         let whole : 8 * (k / 8) + k % 8 ≡ k = omega arith in
         sym (ap (λ b. b / 2 ^ (7 - k % 8) % 2) at ∙ octet-bit x o (k / 8) (k % 8) (omega arith) ∙ ap (λ i. getD x i 0) whole)
 
--- where the eight places from s on are zero, so are the bits
-module _ (a b c d e f g h : ℕ) where
-  eight-clear : (s : ℕ) → s < 8 → ((r : ℕ) → s ≤ r → r < 8 → getD (a ∷ b ∷ c ∷ d ∷ e ∷ f ∷ g ∷ h ∷ []) r 0 ≡ 0)
-      → (128 * a + 64 * b + 32 * c + 16 * d + 8 * e + 4 * f + 2 * g + h) % 2 ^ (8 - s) ≡ 0
-  eight-clear zero l z = let z0 : a ≡ 0 = z 0 (omega arith) (omega arith) in let z1 : b ≡ 0 = z 1 (omega arith) (omega arith) in let z2 : c ≡ 0 = z 2 (omega arith) (omega arith) in let z3 : d ≡ 0 = z 3 (omega arith) (omega arith) in let z4 : e ≡ 0 = z 4 (omega arith) (omega arith) in let z5 : f ≡ 0 = z 5 (omega arith) (omega arith) in let z6 : g ≡ 0 = z 6 (omega arith) (omega arith) in let z7 : h ≡ 0 = z 7 (omega arith) (omega arith) in omega arith
-  eight-clear (suc zero) l z = let z1 : b ≡ 0 = z 1 (omega arith) (omega arith) in let z2 : c ≡ 0 = z 2 (omega arith) (omega arith) in let z3 : d ≡ 0 = z 3 (omega arith) (omega arith) in let z4 : e ≡ 0 = z 4 (omega arith) (omega arith) in let z5 : f ≡ 0 = z 5 (omega arith) (omega arith) in let z6 : g ≡ 0 = z 6 (omega arith) (omega arith) in let z7 : h ≡ 0 = z 7 (omega arith) (omega arith) in omega arith
-  eight-clear (suc (suc zero)) l z = let z2 : c ≡ 0 = z 2 (omega arith) (omega arith) in let z3 : d ≡ 0 = z 3 (omega arith) (omega arith) in let z4 : e ≡ 0 = z 4 (omega arith) (omega arith) in let z5 : f ≡ 0 = z 5 (omega arith) (omega arith) in let z6 : g ≡ 0 = z 6 (omega arith) (omega arith) in let z7 : h ≡ 0 = z 7 (omega arith) (omega arith) in omega arith
-  eight-clear (suc (suc (suc zero))) l z = let z3 : d ≡ 0 = z 3 (omega arith) (omega arith) in let z4 : e ≡ 0 = z 4 (omega arith) (omega arith) in let z5 : f ≡ 0 = z 5 (omega arith) (omega arith) in let z6 : g ≡ 0 = z 6 (omega arith) (omega arith) in let z7 : h ≡ 0 = z 7 (omega arith) (omega arith) in omega arith
-  eight-clear (suc (suc (suc (suc zero)))) l z = let z4 : e ≡ 0 = z 4 (omega arith) (omega arith) in let z5 : f ≡ 0 = z 5 (omega arith) (omega arith) in let z6 : g ≡ 0 = z 6 (omega arith) (omega arith) in let z7 : h ≡ 0 = z 7 (omega arith) (omega arith) in omega arith
-  eight-clear (suc (suc (suc (suc (suc zero))))) l z = let z5 : f ≡ 0 = z 5 (omega arith) (omega arith) in let z6 : g ≡ 0 = z 6 (omega arith) (omega arith) in let z7 : h ≡ 0 = z 7 (omega arith) (omega arith) in omega arith
-  eight-clear (suc (suc (suc (suc (suc (suc zero)))))) l z = let z6 : g ≡ 0 = z 6 (omega arith) (omega arith) in let z7 : h ≡ 0 = z 7 (omega arith) (omega arith) in omega arith
-  eight-clear (suc (suc (suc (suc (suc (suc (suc zero))))))) l z = let z7 : h ≡ 0 = z 7 (omega arith) (omega arith) in omega arith
-  eight-clear (suc (suc (suc (suc (suc (suc (suc (suc s)))))))) l z = absurd (omega arith)
+-- where the eight cells from s on are blank, the bits behind s are zero
+eight-clear : (x : List ℕ) (j s : ℕ) → s < 8 → ((r : ℕ) → s ≤ r → r < 8 → getD (eight x j) r 0 ≡ 0) → octet x j % 2 ^ (8 - s) ≡ 0
+unfolding eight
+eight-clear x j zero h z = omega (arith, z 0 (omega arith) (omega arith), z 1 (omega arith) (omega arith), z 2 (omega arith) (omega arith), z 3 (omega arith) (omega arith), z 4 (omega arith) (omega arith), z 5 (omega arith) (omega arith), z 6 (omega arith) (omega arith), z 7 (omega arith) (omega arith))
+eight-clear x j (suc zero) h z = omega (arith, z 1 (omega arith) (omega arith), z 2 (omega arith) (omega arith), z 3 (omega arith) (omega arith), z 4 (omega arith) (omega arith), z 5 (omega arith) (omega arith), z 6 (omega arith) (omega arith), z 7 (omega arith) (omega arith))
+eight-clear x j (suc (suc zero)) h z = omega (arith, z 2 (omega arith) (omega arith), z 3 (omega arith) (omega arith), z 4 (omega arith) (omega arith), z 5 (omega arith) (omega arith), z 6 (omega arith) (omega arith), z 7 (omega arith) (omega arith))
+eight-clear x j (suc (suc (suc zero))) h z = omega (arith, z 3 (omega arith) (omega arith), z 4 (omega arith) (omega arith), z 5 (omega arith) (omega arith), z 6 (omega arith) (omega arith), z 7 (omega arith) (omega arith))
+eight-clear x j (suc (suc (suc (suc zero)))) h z = omega (arith, z 4 (omega arith) (omega arith), z 5 (omega arith) (omega arith), z 6 (omega arith) (omega arith), z 7 (omega arith) (omega arith))
+eight-clear x j (suc (suc (suc (suc (suc zero))))) h z = omega (arith, z 5 (omega arith) (omega arith), z 6 (omega arith) (omega arith), z 7 (omega arith) (omega arith))
+eight-clear x j (suc (suc (suc (suc (suc (suc zero)))))) h z = omega (arith, z 6 (omega arith) (omega arith), z 7 (omega arith) (omega arith))
+eight-clear x j (suc (suc (suc (suc (suc (suc (suc zero))))))) h z = omega (arith, z 7 (omega arith) (omega arith))
+eight-clear x j (suc (suc (suc (suc (suc (suc (suc (suc s)))))))) h z = absurd (omega arith)
 
 clear-at : (x : List ℕ) (n : ℕ) → n ≡ length x → getD (packed x) (n / 8) 0 % 2 ^ (8 - n % 8) ≡ 0
 clear-at x n e = elim (cases-lt (n / 8) (packed-length (length x))) [ inl low ↦ here low | inr past ↦ behind past ]
@@ -90,13 +88,9 @@ clear-at x n e = elim (cases-lt (n / 8) (packed-length (length x))) [ inl low �
 
     here : n / 8 < packed-length (length x) → getD (packed x) (n / 8) 0 % 2 ^ (8 - n % 8) ≡ 0
     here low =
-        let j = n / 8 in
         let blank : (r : ℕ) → n % 8 ≤ r → getD x (8 * (n / 8) + r) 0 ≡ 0 = λ r h. getD-past x (8 * (n / 8) + r) 0 (omega arith) in
         ap (λ b. b % 2 ^ (8 - n % 8)) (getD-map-counting (octet x) 0 (packed-length (length x)) (n / 8) (n / 8) 0 low (omega arith))
-        ∙ eight-clear (getD x (8 * j) 0) (getD x (8 * j + 1) 0) (getD x (8 * j + 2) 0) (getD x (8 * j + 3) 0) (getD x (8 * j + 4) 0) (getD x (8 * j + 5) 0) (getD x (8 * j + 6) 0) (getD x (8 * j + 7) 0)
-        (n % 8) (omega arith)
-        (λ r h l. eight-places (getD x (8 * j) 0) (getD x (8 * j + 1) 0) (getD x (8 * j + 2) 0) (getD x (8 * j + 3) 0) (getD x (8 * j + 4) 0) (getD x (8 * j + 5) 0) (getD x (8 * j + 6) 0) (getD x (8 * j + 7) 0)
-        x j refl refl refl refl refl refl refl refl r l ∙ blank r h)
+        ∙ eight-clear x (n / 8) (n % 8) (omega arith) (λ r h l. eight-at x (n / 8) r l ∙ blank r h)
 
 pub clear-packed : (x : List ℕ) → clear (length x) (packed x) ≡ true
 clear-packed x = eq-eqb (getD (packed x) (length x / 8) 0 % 2 ^ (8 - length x % 8)) 0 (clear-at x (length x) refl)

@@ -18,7 +18,8 @@ use Rattle.tickets.specs.Packs.{packed-length}
 use Rattle.tickets.specs.Reads.{headed, head-of, head-at, says, word-part, packed-word, records-part, parts-refusal}
 use Rattle.tickets.specs.Tickets.{Counts}
 use Rattle.tickets.specs.declared.head.Head.{Head}
-use Rattle.tickets.proofs.Forms.{held, word-only}
+use Rattle.tickets.specs.PartLaws.{held}
+use Rattle.tickets.proofs.Forms.{word-only}
 
 -- from the front: the head, and the place behind it
 pub head-front : (bs b : List ℕ) (at : ℕ) (o : Option Head) (h : Head) → b ≡ bs → at ≡ 0 → o ≡ head-at (drop at b) → o ≡ Some h → head-at bs ≡ Some h
@@ -31,28 +32,20 @@ pub word-front : (bs b : List ℕ) (at cells n : ℕ) (o : Option (List ℕ)) �
 word-front bs b at cells n o eb ea ec e =
     sym (e ∙ ap (λ l. word-part cells (drop at l)) eb ∙ ap (λ i. word-part cells (drop i bs)) ea ∙ ap (λ m. word-part m (drop 7 bs)) ec)
 
-head-read : (kind : ℕ) (n : Counts) (bs : List ℕ) (h : Head) → head-at bs ≡ Some h → (headed bs ≡ true) × (says kind n h ≡ says kind n (head-of bs))
-head-read kind n bs h e =
-    let p = held (headed bs) (Some (head-of bs)) h e in
-    let is : head-of bs ≡ h = cc in
-    (p .0, ap (says kind n) (sym is))
-
 module _ (kind : ℕ) (n : Counts) (bs : List ℕ) (h : Head) (e : head-at bs ≡ Some h) where
+  -- once there is a head, what it says decides, then the word
+  behind-head : parts-refusal kind n bs ≡ cond (not (says kind n h)) 16 (cond (isSome (word-part (n .cells) (drop 7 bs))) 0 17)
+  behind-head =
+      let p = held (headed bs) (Some (head-of bs)) h e in
+      let is : head-of bs ≡ h = cc in
+      ap (λ t. cond (not t) 15 (cond (not (says kind n (head-of bs))) 16 (cond (isSome (word-part (n .cells) (drop 7 bs))) 0 17))) (p .0)
+      ∙ ap (λ g. cond (not (says kind n g)) 16 (cond (isSome (word-part (n .cells) (drop 7 bs))) 0 17)) is
+
   pub unexpected : says kind n h ≡ false → 16 ≡ parts-refusal kind n bs
-  unexpected f =
-      let p = head-read kind n bs h e in
-      let a = p .0 in
-      let b : says kind n (head-of bs) ≡ false = sym (p .1) ∙ f in
-      sym (ap (λ t. cond (not t) 15 (cond (not (says kind n (head-of bs))) 16 (cond (isSome (word-part (n .cells) (drop 7 bs))) 0 17))) a
-      ∙ ap (λ t. cond (not t) 16 (cond (isSome (word-part (n .cells) (drop 7 bs))) 0 17)) b)
+  unexpected f = sym (behind-head ∙ ap (λ t. cond (not t) 16 (cond (isSome (word-part (n .cells) (drop 7 bs))) 0 17)) f)
 
   known : says kind n h ≡ true → parts-refusal kind n bs ≡ cond (isSome (word-part (n .cells) (drop 7 bs))) 0 17
-  known f =
-      let p = head-read kind n bs h e in
-      let a = p .0 in
-      let b : says kind n (head-of bs) ≡ true = sym (p .1) ∙ f in
-      ap (λ t. cond (not t) 15 (cond (not (says kind n (head-of bs))) 16 (cond (isSome (word-part (n .cells) (drop 7 bs))) 0 17))) a
-      ∙ ap (λ t. cond (not t) 16 (cond (isSome (word-part (n .cells) (drop 7 bs))) 0 17)) b
+  known f = behind-head ∙ ap (λ t. cond (not t) 16 (cond (isSome (word-part (n .cells) (drop 7 bs))) 0 17)) f
 
   pub formless : says kind n h ≡ true → word-part (n .cells) (drop 7 bs) ≡ None → 17 ≡ parts-refusal kind n bs
   formless f w = sym (known f ∙ ap (λ o. cond (isSome o) 0 17) w)

@@ -38,26 +38,26 @@ mark-and-part xs mid out part bs a b at e f g h =
     f ∙ ap (λ l. splice l (at + 2) part) e ∙ ap (splice (splice xs at (a ∷ b ∷ [])) (at + 2)) g
     ∙ splice-join xs (a ∷ b ∷ []) bs at (at + 2) (omega arith) (omega arith)
 
+-- room for one more record
+pub record-room : (width start i len at m : ℕ) → at ≡ start + i * width → i < len → start + len * width ≤ m → at + width ≤ m
+record-room width start i len at m e h r =
+    let more : (i + 1) * width ≤ len * width = mul-le (i + 1) width len width (omega arith) (omega arith) in
+    omega (arith, add-mul i 1 width, one-mul width)
+
+pub record-next : (width start i at : ℕ) → at ≡ start + i * width → at + width ≡ start + (i + 1) * width
+record-next width start i at e = omega (arith, add-mul i 1 width, one-mul width)
+
 module _ {W : Type 0} (f : W → List ℕ) (width : ℕ) (each : (w : W) → length (f w) ≡ width) where
   pub joined-length : (ws : List W) → length (joined f ws) ≡ length ws * width
   joined-length [] = sym (zero-mul width)
   joined-length (w ∷ ws) = length-append (f w) (joined f ws) ∙ omega (arith, each w, joined-length ws, suc-mul (length ws) width)
-
-  -- room for one more
-  pub record-room : (start i len at m : ℕ) → at ≡ start + i * width → i < len → start + len * width ≤ m → at + width ≤ m
-  record-room start i len at m e h r =
-      let more : (i + 1) * width ≤ len * width = mul-le (i + 1) width len width (omega arith) (omega arith) in
-      omega (arith, add-mul i 1 width, one-mul width)
-
-  pub record-next : (start i at : ℕ) → at ≡ start + i * width → at + width ≡ start + (i + 1) * width
-  record-next start i at e = omega (arith, add-mul i 1 width, one-mul width)
 
   -- one record more
   pub record-step : (xs out : List ℕ) (start i at : ℕ) (ws : List W) (w : W) → i < length ws → start + length ws * width ≤ length xs → at ≡ start + i * width → w ≡ getD ws i w
       → out ≡ splice xs start (joined f (take i ws)) → splice out at (f w) ≡ splice xs start (joined f (take (i + 1) ws))
   record-step xs out start i at ws w h r e is inv =
       let long : length (joined f (take i ws)) ≡ i * width = joined-length (take i ws) ∙ ap (λ k. k * width) (length-take-le i ws (omega arith)) in
-      let room = record-room start i (length ws) at (length xs) e h r in
+      let room = record-room width start i (length ws) at (length xs) e h r in
       let more : joined f (take i ws) ++ f w ≡ joined f (take (i + 1) ws) =
       ap (λ v. joined f (take i ws) ++ f v) is ∙ joined-more f [] (take i ws) (getD ws i w) ∙ ap (joined f) (sym (take-more ws i w h)) in
       ap (λ l. splice l at (f w)) inv ∙ splice-join xs (joined f (take i ws)) (f w) start at (omega arith) (omega arith) ∙ ap (splice xs start) more

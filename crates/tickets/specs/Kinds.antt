@@ -1,6 +1,6 @@
 -- The codecs of our own kinds: a plain weight in four bytes, a paired one in eight, the grey part first.
 use mathlib.Core.Path.{_≡_, refl, sym, ap, _∙_}
-use mathlib.Core.Bool.{Bool, true, false, cond, _&&_}
+use mathlib.Core.Bool.{Bool, true, cond, _&&_}
 use mathlib.Core.List.{List, [], _++_}
 use Prim.Native.Nat.{ℕ, _+_, _^_}
 use native.Mathlib.Omega.{arith}
@@ -19,7 +19,7 @@ use Rattle.weights.specs.declared.plain.Plain.{Plain}
 use Rattle.tickets.specs.Codecs.{Codec}
 use Rattle.tickets.specs.Packs.{Octets}
 use Rattle.tickets.specs.Parts.{part-bytes, part-of}
-use Rattle.tickets.specs.PartLaws.{part-back, part-only}
+use Rattle.tickets.specs.PartLaws.{part-back, part-only, held}
 
 -- no part of a weight is farther from 0
 abbrev pub part-fits : ℤ → Bool
@@ -39,11 +39,6 @@ paired-in bs =
     cond (eqb (length bs) 8 && (part-fits (part-of bs) && part-fits (part-of (drop 4 bs))))
     (Some (paired-of (part-of bs) (part-of (drop 4 bs)))) None
 
--- a choice that came out as some value
-chosen : {W : Type 0} (b : Bool) (v w : W) → cond b (Some v) None ≡ Some w → (b ≡ true) × (v ≡ w)
-chosen true v w e = (refl, (let r : v ≡ w = cc in r))
-chosen false v w e = absurd (let z : _≡_ {A = ℕ} 0 1 = cc in omega arith)
-
 pub plain-back : (w : Plain) → plain-in (plain-bytes w) ≡ Some w
 plain-back w =
     let z : part-of (plain-bytes w) ≡ w .value = part-back (w .value) [] (w .within) in
@@ -53,11 +48,12 @@ plain-back w =
 
 pub plain-only : (bs : List ℕ) (w : Plain) → Octets bs → plain-in bs ≡ Some w → bs ≡ plain-bytes w
 plain-only bs w o e =
-    let h = chosen (eqb (length bs) 4 && part-fits (part-of bs)) (plain-of (part-of bs)) w e in
+    let h = held (eqb (length bs) 4 && part-fits (part-of bs)) (Some (plain-of (part-of bs))) w e in
+    let is : plain-of (part-of bs) ≡ w = cc in
     let b = and-parts (eqb (length bs) 4) (part-fits (part-of bs)) (h .0) in
     let l = eqb-true (length bs) 4 (b .0) in
     let z = uncut (2 ^ 30) (part-of bs) (leb-true (natAbs (part-of bs)) (2 ^ 30) (b .1)) in
-    let v : part-of bs ≡ w .value = sym z ∙ ap (λ u. u .value) (h .1) in
+    let v : part-of bs ≡ w .value = sym z ∙ ap (λ u. u .value) is in
     part-only bs o (omega arith) ∙ ap (λ r. part-bytes (part-of bs) ++ r) (drop-all 4 bs (omega arith)) ∙ ap part-bytes v
 
 abbrev pub plain-codec : Codec Plain
@@ -86,14 +82,15 @@ paired-back w =
 
 pub paired-only : (bs : List ℕ) (w : Paired) → Octets bs → paired-in bs ≡ Some w → bs ≡ paired-bytes w
 paired-only bs w o e =
-    let h = chosen (eqb (length bs) 8 && (part-fits (part-of bs) && part-fits (part-of (drop 4 bs)))) (paired-of (part-of bs) (part-of (drop 4 bs))) w e in
+    let h = held (eqb (length bs) 8 && (part-fits (part-of bs) && part-fits (part-of (drop 4 bs)))) (Some (paired-of (part-of bs) (part-of (drop 4 bs)))) w e in
+    let is : paired-of (part-of bs) (part-of (drop 4 bs)) ≡ w = cc in
     let b = and-parts (eqb (length bs) 8) (part-fits (part-of bs) && part-fits (part-of (drop 4 bs))) (h .0) in
     let d = and-parts (part-fits (part-of bs)) (part-fits (part-of (drop 4 bs))) (b .1) in
     let l = eqb-true (length bs) 8 (b .0) in
     let y = uncut (2 ^ 30) (part-of bs) (leb-true (natAbs (part-of bs)) (2 ^ 30) (d .0)) in
     let z = uncut (2 ^ 30) (part-of (drop 4 bs)) (leb-true (natAbs (part-of (drop 4 bs))) (2 ^ 30) (d .1)) in
-    let u : part-of bs ≡ w .grey = sym y ∙ ap (λ t. t .grey) (h .1) in
-    let v : part-of (drop 4 bs) ≡ w .dark = sym z ∙ ap (λ t. t .dark) (h .1) in
+    let u : part-of bs ≡ w .grey = sym y ∙ ap (λ t. t .grey) is in
+    let v : part-of (drop 4 bs) ≡ w .dark = sym z ∙ ap (λ t. t .dark) is in
     let o4 : Octets (drop 4 bs) = λ i. rw getD-drop (o (4 + i)) in
     let second : drop 4 bs ≡ part-bytes (part-of (drop 4 bs)) =
     part-only (drop 4 bs) o4 (simp length-drop (omega arith))

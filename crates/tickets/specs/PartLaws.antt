@@ -1,5 +1,6 @@
 -- A part is read back from its bytes, and from no others.
 use mathlib.Core.Path.{_≡_, refl, sym, ap, _∙_}
+use mathlib.Core.Bool.{Bool, true, false, cond}
 use mathlib.Core.List.{List, [], _∷_, _++_}
 use Prim.Native.Nat.{ℕ, _+_, _*_, _/_, _%_, _^_, _≤_, _<_}
 use native.Mathlib.Omega.{arith}
@@ -7,6 +8,8 @@ use lib.IntN.{ℤ, pos, negsuc, natAbs}
 use lib.ListN.{length, getD, drop}
 use mir.Syntax.{w32}
 use mir.Val.{SFits, toZ, ofZ}
+use Rattle.std.specs.declared.option.Option.{Option}
+use Rattle.std.specs.declared.option.Option.the-variants.{Some, None}
 use Rattle.std.proofs.shelf.Bits.{shr-shr}
 use Rattle.std.proofs.shelf.Signed.{toZ-ofZ, ofZ-toZ}
 use Rattle.tickets.specs.Packs.{Octets}
@@ -56,3 +59,8 @@ part-only bs o h =
     let below : number-of-bytes bs < 2 ^ 32 = omega (arith, o 0, o 1, o 2, o 3) in
     four bs h
     ∙ ap (λ l. l ++ drop 4 bs) (sym (ap number-bytes (ofZ-toZ w32 (number-of-bytes bs) below) ∙ number-only (getD bs 0 0) (getD bs 1 0) (getD bs 2 0) (getD bs 3 0) (o 0) (o 1) (o 2) (o 3)))
+
+-- a choice that came out as some value
+pub held : {X : Type 0} (b : Bool) (o : Option X) (w : X) → cond b o None ≡ Some w → (b ≡ true) × (o ≡ Some w)
+held true o w e = (refl, e)
+held false o w e = absurd (let z : _≡_ {A = ℕ} 0 1 = cc in omega arith)

@@ -18,20 +18,20 @@ loop-m-holds g c = (omega (arith, zero-mul (2 + g .W·TicketWeight .codec .width
 pub put-multiplier-requires : need.put-multiplier-requires
 put-multiplier-requires g c κs =
     let codec = g .W·TicketWeight .codec in
-    let room = record-room (multiplier-bytes codec) (2 + codec .width) (bytes-length codec) (c .args .start) (c .loop-m .m-index) (length (c .args .multipliers .now)) (c .loop-m .at) (length (c .args .out .now)) (c .loop-m .inv .0) (c .loop-m-test .taken) (c .pre) in
+    let room = record-room (2 + codec .width) (c .args .start) (c .loop-m .m-index) (length (c .args .multipliers .now)) (c .loop-m .at) (length (c .args .out .now)) (c .loop-m .inv .0) (c .loop-m-test .taken) (c .pre) in
     omega arith
 
 pub add-at-in-loop-m : need.add-at-in-loop-m
 add-at-in-loop-m g c =
     let codec = g .W·TicketWeight .codec in
-    let room = record-room (multiplier-bytes codec) (2 + codec .width) (bytes-length codec) (c .args .start) (c .loop-m .m-index) (length (c .args .multipliers .now)) (c .loop-m .at) (length (c .args .out .now)) (c .loop-m .inv .0) (c .loop-m-test .taken) (c .pre) in
+    let room = record-room (2 + codec .width) (c .args .start) (c .loop-m .m-index) (length (c .args .multipliers .now)) (c .loop-m .at) (length (c .args .out .now)) (c .loop-m .inv .0) (c .loop-m-test .taken) (c .pre) in
     let h : c .loop-m .at + (2 + c .width .result) ≤ length (c .args .out .now) = omega (arith, room, c .width .ensures) in
     search needs
 
 pub loop-m-again : need.loop-m-again
 loop-m-again g c =
     let codec = g .W·TicketWeight .codec in
-    let next = record-next (multiplier-bytes codec) (2 + codec .width) (bytes-length codec) (c .args .start) (c .loop-m .m-index) (c .loop-m .at) (c .loop-m .inv .0) in (
+    let next = record-next (2 + codec .width) (c .args .start) (c .loop-m .m-index) (c .loop-m .at) (c .loop-m .inv .0) in (
       ap (λ w. c .loop-m .at + (2 + w)) (c .width .ensures) ∙ next,
       c .put-multiplier .ensures
           ∙ record-step (multiplier-bytes codec) (2 + codec .width) (bytes-length codec) (c .args .out .now) (c .loop-m .out) (c .args .start) (c .loop-m .m-index) (c .loop-m .at)
