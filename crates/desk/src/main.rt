@@ -1,4 +1,6 @@
 // Answers commands from the standard input, one a line, on the standard output.
+#![tactic(auto)]
+
 mod answers;
 mod boards;
 mod command;

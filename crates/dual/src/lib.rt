@@ -1,4 +1,6 @@
 // The laws of the row choice and of the floor. Each function's contract is a law; there is nothing to compute.
+#![tactic(auto)]
+
 ghost use Rattle.dual.specs.Examples.{Examples};
 ghost use Rattle.dual.specs.Laws.{NearestIsFound, ChoiceKeepsTheTieRule, ChoiceIsCheapest, FloorIsLeastLagrangian, FloorBelowCodewords};
 

@@ -1,4 +1,6 @@
 // Layouts of a label: which cells each parity row joins.
+#![tactic(auto)]
+
 ghost use Rattle.std.specs.Prelude.{◌≡◌, length};
 ghost use Rattle.layouts.specs.Plans.{Plan, edges, row_length, cell_at};
 ghost use Rattle.std.specs.Option.{option_map};

@@ -1,4 +1,6 @@
 // What can be relied on, over every layout and every kind of weights, whatever calls are made on a reading.
+#![tactic(auto)]
+
 ghost use Rattle.promise.specs.Theorem.{NoFalseWord};
 
 use layouts::Layout;

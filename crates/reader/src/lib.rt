@@ -1,4 +1,6 @@
 // Reading a label: the row choice, the floor, and the steps by which multipliers move.
+#![tactic(auto)]
+
 mod boards;
 mod bounds;
 mod choice;

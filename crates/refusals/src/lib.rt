@@ -1,4 +1,6 @@
 // Every reason for which a call is declined. A declined call changes nothing.
+#![tactic(auto)]
+
 ghost use Rattle.std.specs.Prelude.{◌≡◌};
 ghost use Rattle.refusals.specs.Numbers.{number};
 

@@ -1,5 +1,7 @@
 // Tickets: the certificate that one desk hands another. A well-formed ticket certifies nothing by itself: it only says
 // of which word and multipliers somebody claims that they meet.
+#![tactic(auto)]
+
 ghost use Rattle.std.specs.Prelude.{◌≡◌, take, Some};
 ghost use Rattle.std.specs.Option.{option_map};
 ghost use Rattle.tickets.specs.Codecs.{Codec};

@@ -1,4 +1,6 @@
 // Weights: whole numbers of bounded size that costs and multipliers are made of.
+#![tactic(auto)]
+
 ghost use Rattle.std.specs.Prelude.{◌≡◌, pos, ◌+ℤ◌, ◌-ℤ◌, int_lt};
 ghost use Rattle.weights.specs.Kinds.{Kind, Exact, Roomy};
 
