@@ -16,7 +16,7 @@ pub(crate) fn check_floor<L: Layout, W: Weight>(
     multipliers: &[W],
     n: usize,
 ) -> Result<(), Refusal>
-    ensures { number_of result ≡ floor_refusal kind (plan layout.now) costs.now multipliers.now n }
+    ensures { number_of result ≡ floor_refusal W.kind (L.plan layout.now) costs.now multipliers.now n }
 {
     let cells = layout.cells() as usize;
     if costs.len() != cells || multipliers.len() != layout.edges() as usize || n != cells {
@@ -35,7 +35,7 @@ pub(crate) fn check_choices<L: Layout, W: Weight>(
     m: usize,
     n: usize,
 ) -> Result<(), Refusal>
-    ensures { number_of result ≡ choices_refusal kind (plan layout.now) multipliers.now m n }
+    ensures { number_of result ≡ choices_refusal W.kind (L.plan layout.now) multipliers.now m n }
 {
     let edges = layout.edges() as usize;
     if multipliers.len() != edges || m != edges || n != layout.rows() as usize {
@@ -49,7 +49,7 @@ pub(crate) fn check_choices<L: Layout, W: Weight>(
 
 // Whether boards of these lengths (costs, carried and kept multipliers, trial and kept word) fit the layout.
 fn is_fitting<L: Layout>(layout: &L, c: usize, a: usize, b: usize, t: usize, w: usize) -> bool
-    ensures { result ≡ not (misfit (plan layout.now) c a b t w) }
+    ensures { result ≡ not (misfit (L.plan layout.now) c a b t w) }
 {
     let cells = layout.cells() as usize;
     let edges = layout.edges() as usize;
@@ -65,7 +65,7 @@ pub(crate) fn check_new<L: Layout, W: Weight>(
     trial: usize,
     word: usize,
 ) -> Result<(), Refusal>
-    ensures { number_of result ≡ begin_refusal kind (plan layout.now) costs.now carried kept trial word }
+    ensures { number_of result ≡ begin_refusal W.kind (L.plan layout.now) costs.now carried kept trial word }
 {
     if !is_fitting(layout, costs.len(), carried, kept, trial, word) {
         return Err(Refusal::BoardLength);
@@ -85,7 +85,7 @@ pub(crate) fn check_boards<L: Layout, W: Weight>(
     trial: &[u8],
     word: &[u8],
 ) -> Result<(), Refusal>
-    ensures { number_of result ≡ shape_refusal kind (plan layout.now) costs.now carried.now kept.now trial.now word.now }
+    ensures { number_of result ≡ shape_refusal W.kind (L.plan layout.now) costs.now carried.now kept.now trial.now word.now }
 {
     if !is_fitting(
         layout,

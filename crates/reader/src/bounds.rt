@@ -24,10 +24,10 @@ fn slacks_into<L: Layout, W: Weight>(
     multipliers: &[W],
     out: &mut [W],
 )
-    requires cells { Cells (plan layout.now).rows table.now.cells }
-    requires fit { Fit kind (plan layout.now) costs.now multipliers.now (length out.old) }
-    ensures value { meanings kind out.new ≡ slacks (edge_cells (plan layout.now).rows) (meanings kind multipliers.now) (meanings kind costs.now) }
-    ensures size { total_size kind out.new ≤ 2 ^ 23 + 2 ^ 28 }
+    requires cells { Cells (L.plan layout.now).rows table.now.cells }
+    requires fit { Fit W.kind (L.plan layout.now) costs.now multipliers.now (length out.old) }
+    ensures value { meanings W.kind out.new ≡ slacks (edge_cells (L.plan layout.now).rows) (meanings W.kind multipliers.now) (meanings W.kind costs.now) }
+    ensures size { total_size W.kind out.new ≤ 2 ^ 23 + 2 ^ 28 }
 {
     out.copy_from_slice(costs);
     slacken(
@@ -47,13 +47,13 @@ pub(crate) fn bound<L: Layout, W: Weight>(
     trial: &mut [u8],
     marks: &mut [u8],
 ) -> W
-    requires cells { Cells (plan layout.now).rows table.now.cells }
-    requires starts { Starts (plan layout.now).rows table.now.starts table.now.rows }
-    requires fit { Fit kind (plan layout.now) costs.now multipliers.now (length trial.old) }
-    requires room { length marks.old ≡ edges (plan layout.now).rows }
-    ensures value { kind.meaning result ≡ floor (plan layout.now).rows (meanings kind costs.now) (meanings kind multipliers.now) }
-    ensures trial { trial.new ≡ bytes (trial_word (plan layout.now).rows (meanings kind costs.now) (meanings kind multipliers.now)) }
-    ensures marks { marks.new ≡ bytes (choices (plan layout.now).rows (meanings kind multipliers.now)) }
+    requires cells { Cells (L.plan layout.now).rows table.now.cells }
+    requires starts { Starts (L.plan layout.now).rows table.now.starts table.now.rows }
+    requires fit { Fit W.kind (L.plan layout.now) costs.now multipliers.now (length trial.old) }
+    requires room { length marks.old ≡ edges (L.plan layout.now).rows }
+    ensures value { W.kind.meaning result ≡ floor (L.plan layout.now).rows (meanings W.kind costs.now) (meanings W.kind multipliers.now) }
+    ensures trial { trial.new ≡ bytes (trial_word (L.plan layout.now).rows (meanings W.kind costs.now) (meanings W.kind multipliers.now)) }
+    ensures marks { marks.new ≡ bytes (choices (L.plan layout.now).rows (meanings W.kind multipliers.now)) }
 {
     let mut store = [W::zero(); 128];
     let whole = &mut store[..];
@@ -72,9 +72,9 @@ pub fn floor<L: Layout, W: Weight>(
     multipliers: &[W],
     trial: &mut [u8],
 ) -> Result<W, Refusal>
-    ensures number { number_of result ≡ floor_refusal kind (plan layout.now) costs.now multipliers.now (length trial.old) }
-    ensures value { IfOk result (λ w. kind.meaning w ≡ floor (plan layout.now).rows (meanings kind costs.now) (meanings kind multipliers.now)) }
-    ensures trial { OnOk result (trial.new ≡ bytes (trial_word (plan layout.now).rows (meanings kind costs.now) (meanings kind multipliers.now))) }
+    ensures number { number_of result ≡ floor_refusal W.kind (L.plan layout.now) costs.now multipliers.now (length trial.old) }
+    ensures value { IfOk result (λ w. W.kind.meaning w ≡ floor (L.plan layout.now).rows (meanings W.kind costs.now) (meanings W.kind multipliers.now)) }
+    ensures trial { OnOk result (trial.new ≡ bytes (trial_word (L.plan layout.now).rows (meanings W.kind costs.now) (meanings W.kind multipliers.now))) }
     ensures same { OnErr result (trial.new ≡ trial.old) }
 {
     check_floor(layout, costs, multipliers, trial.len())?;
@@ -97,8 +97,8 @@ pub fn slacks<L: Layout, W: Weight>(
     multipliers: &[W],
     out: &mut [W],
 ) -> Result<(), Refusal>
-    ensures number { number_of result ≡ floor_refusal kind (plan layout.now) costs.now multipliers.now (length out.old) }
-    ensures value { OnOk result (meanings kind out.new ≡ slacks (edge_cells (plan layout.now).rows) (meanings kind multipliers.now) (meanings kind costs.now)) }
+    ensures number { number_of result ≡ floor_refusal W.kind (L.plan layout.now) costs.now multipliers.now (length out.old) }
+    ensures value { OnOk result (meanings W.kind out.new ≡ slacks (edge_cells (L.plan layout.now).rows) (meanings W.kind multipliers.now) (meanings W.kind costs.now)) }
     ensures same { OnErr result (out.new ≡ out.old) }
 {
     check_floor(layout, costs, multipliers, out.len())?;

@@ -14,13 +14,13 @@ pub struct RowChoice {
 }
 
 pub(crate) fn is_negative<W: Weight>(w: W) -> bool
-    ensures { result ≡ negative (kind.meaning w) }
+    ensures { result ≡ negative (W.kind.meaning w) }
 {
     w.below(W::zero())
 }
 
 fn odd_negatives<W: Weight>(multipliers: &[W]) -> bool
-    ensures { result ≡ odd (negatives (meanings kind multipliers.now)) }
+    ensures { result ≡ odd (negatives (meanings W.kind multipliers.now)) }
 {
     let mut uneven = false;
     for m in multipliers {
@@ -36,10 +36,10 @@ fn nearer_of<W: Weight>(
     m: W,
     below: bool,
 ) -> Option<(usize, W)>
-    requires sign { negative (kind.meaning m) ≡ below }
-    requires best { OfSign kind below best }
-    ensures value { option_map (spot kind) result ≡ nearer (option_map (spot kind) best) (place, unsigned_abs (kind.meaning m)) }
-    ensures sign { OfSign kind below result }
+    requires sign { negative (W.kind.meaning m) ≡ below }
+    requires best { OfSign W.kind below best }
+    ensures value { option_map (spot W.kind) result ≡ nearer (option_map (spot W.kind) best) (place, unsigned_abs (W.kind.meaning m)) }
+    ensures sign { OfSign W.kind below result }
 {
     match best {
         None => Some((place, m)),
@@ -56,8 +56,8 @@ fn nearer_of<W: Weight>(
 
 // The place nearest to 0 among the negative multipliers, or among the others; absent where there is none.
 fn nearest<W: Weight>(multipliers: &[W], below: bool) -> Option<(usize, W)>
-    ensures value { option_map (spot kind) result ≡ nearest below (meanings kind multipliers.now) }
-    ensures sign { OfSign kind below result }
+    ensures value { option_map (spot W.kind) result ≡ nearest below (meanings W.kind multipliers.now) }
+    ensures sign { OfSign W.kind below result }
 {
     let mut best = None;
     for (i, m) in multipliers.iter().enumerate() {
@@ -71,8 +71,8 @@ fn nearest<W: Weight>(multipliers: &[W], below: bool) -> Option<(usize, W)>
 // Of the negative spot d and the other spot a, the place that is cheaper to turn. The absolute values are
 // compared as a with 0 - d, which is exact for every weight.
 fn cheaper<W: Weight>(d: Option<(usize, W)>, a: Option<(usize, W)>) -> Option<usize>
-    requires { (OfSign kind true d) × (OfSign kind false a) }
-    ensures { result ≡ cheaper (option_map (spot kind) d) (option_map (spot kind) a) }
+    requires { (OfSign W.kind true d) × (OfSign W.kind false a) }
+    ensures { result ≡ cheaper (option_map (spot W.kind) d) (option_map (spot W.kind) a) }
 {
     match (d, a) {
         (None, None) => None,
@@ -90,14 +90,14 @@ fn cheaper<W: Weight>(d: Option<(usize, W)>, a: Option<(usize, W)>) -> Option<us
 
 // The place to turn in a row with an odd number of negative multipliers.
 pub(crate) fn turned_place<W: Weight>(multipliers: &[W]) -> Option<usize>
-    ensures { result ≡ cheaper (nearest true (meanings kind multipliers.now)) (nearest false (meanings kind multipliers.now)) }
+    ensures { result ≡ cheaper (nearest true (meanings W.kind multipliers.now)) (nearest false (meanings W.kind multipliers.now)) }
 {
     cheaper(nearest(multipliers, true), nearest(multipliers, false))
 }
 
 // The choice of a row with these multipliers.
 pub fn choose<W: Weight>(multipliers: &[W]) -> RowChoice
-    ensures { result.toggled ≡ toggle (meanings kind multipliers.now) }
+    ensures { result.toggled ≡ toggle (meanings W.kind multipliers.now) }
 {
     let toggled = if odd_negatives(multipliers) {
         turned_place(multipliers)
@@ -117,7 +117,7 @@ impl RowChoice {
 
     // Whether the place is chosen, in a row with these multipliers.
     pub fn takes<W: Weight>(self, multipliers: &[W], place: usize) -> bool
-        ensures { result ≡ slice_index_or (flipped self.toggled (negatives (meanings kind multipliers.now))) place false }
+        ensures { result ≡ slice_index_or (flipped self.toggled (negatives (meanings W.kind multipliers.now))) place false }
     {
         place < multipliers.len() && is_negative(multipliers[place]) != self.turns(place)
     }

@@ -26,10 +26,10 @@ fn odd_dark(cells: &[u8], word: &[u8]) -> bool
 
 // Whether the word meets every row. The layout is the one that the table copies; it is not asked.
 pub(crate) fn meets_rows<L: Layout>(layout: &L, table: &Table, word: &[u8]) -> bool
-    requires cells { Cells (plan layout.now).rows table.now.cells }
-    requires starts { Starts (plan layout.now).rows table.now.starts table.now.rows }
-    requires word { length word.now ≡ (plan layout.now).cells }
-    ensures { result ≡ codeword (plan layout.now).rows (bits word.now) }
+    requires cells { Cells (L.plan layout.now).rows table.now.cells }
+    requires starts { Starts (L.plan layout.now).rows table.now.starts table.now.rows }
+    requires word { length word.now ≡ (L.plan layout.now).cells }
+    ensures { result ≡ codeword (L.plan layout.now).rows (bits word.now) }
 {
     for r in 0..table.rows as usize {
         if odd_dark(table.row_cells(layout, r), word) {
@@ -41,7 +41,7 @@ pub(crate) fn meets_rows<L: Layout>(layout: &L, table: &Table, word: &[u8]) -> b
 
 // The multiplier of one edge after a step: it moves where the word's bit and the row's choice differ, up for bit 0.
 fn moved_edge<W: Weight>(multiplier: W, step: u32, dark: bool, chosen: bool) -> W
-    ensures { result ≡ moved_edge kind step dark chosen multiplier }
+    ensures { result ≡ moved_edge W.kind step dark chosen multiplier }
 {
     if dark != chosen {
         multiplier.moved(step, !dark)
@@ -61,7 +61,7 @@ pub(crate) fn move_edges<W: Weight>(
     requires inside { (k : ℕ) → k < length cells.now → slice_index cells.now k < length word.now }
     requires marks { length marks.now ≡ length cells.now }
     requires multipliers { length multipliers.old ≡ length cells.now }
-    ensures { multipliers.new ≡ moved_edges kind step (at (bits word.now) cells.now) (bits marks.now) multipliers.old }
+    ensures { multipliers.new ≡ moved_edges W.kind step (at (bits word.now) cells.now) (bits marks.now) multipliers.old }
 {
     for i in 0..cells.len() {
         let dark = word[cells[i] as usize] != 0;

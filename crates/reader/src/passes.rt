@@ -19,10 +19,10 @@ pub(crate) fn slacken<W: Weight>(cells: &[u8], multipliers: &[W], left: &mut [W]
     requires same { length multipliers.now ≡ length cells.now }
     requires few { length cells.now ≤ 1024 }
     requires inside { (k : ℕ) → k < length cells.now → slice_index cells.now k < length left.old }
-    requires small { Within kind (2 ^ 18) multipliers.now }
-    requires costs { total_size kind left.old ≤ 2 ^ 23 }
-    ensures value { meanings kind left.new ≡ slacks cells.now (meanings kind multipliers.now) (meanings kind left.old) }
-    ensures size { total_size kind left.new ≤ 2 ^ 23 + 2 ^ 28 }
+    requires small { Within W.kind (2 ^ 18) multipliers.now }
+    requires costs { total_size W.kind left.old ≤ 2 ^ 23 }
+    ensures value { meanings W.kind left.new ≡ slacks cells.now (meanings W.kind multipliers.now) (meanings W.kind left.old) }
+    ensures size { total_size W.kind left.new ≤ 2 ^ 23 + 2 ^ 28 }
 {
     for i in 0..cells.len() {
         let cell = cells[i] as usize;
@@ -39,8 +39,8 @@ fn byte_of(b: bool) -> u8
 // Marks the negative weights, and says whether there is an odd number of them.
 pub(crate) fn mark_negatives<W: Weight>(list: &[W], marks: &mut [u8]) -> bool
     requires { length list.now ≡ length marks.old }
-    ensures marks { marks.new ≡ bytes (negatives (meanings kind list.now)) }
-    ensures parity { result ≡ odd (negatives (meanings kind list.now)) }
+    ensures marks { marks.new ≡ bytes (negatives (meanings W.kind list.now)) }
+    ensures parity { result ≡ odd (negatives (meanings W.kind list.now)) }
 {
     let mut uneven = false;
     for (i, w) in list.iter().enumerate() {
@@ -54,7 +54,7 @@ pub(crate) fn mark_negatives<W: Weight>(list: &[W], marks: &mut [u8]) -> bool
 // Marks the choice of one row.
 pub(crate) fn mark_choice<W: Weight>(multipliers: &[W], marks: &mut [u8])
     requires { length multipliers.now ≡ length marks.old }
-    ensures { marks.new ≡ bytes (chosen (meanings kind multipliers.now)) }
+    ensures { marks.new ≡ bytes (chosen (meanings W.kind multipliers.now)) }
 {
     if mark_negatives(multipliers, marks) {
         if let Some(turned) = turned_place(multipliers) {
@@ -66,9 +66,9 @@ pub(crate) fn mark_choice<W: Weight>(multipliers: &[W], marks: &mut [u8])
 // The sum of the marked weights.
 pub(crate) fn sum_marked<W: Weight>(marks: &[u8], list: &[W]) -> W
     requires same { length marks.now ≡ length list.now }
-    requires small { total_size kind list.now ≤ 2 ^ 30 }
-    ensures value { kind.meaning result ≡ pick (bits marks.now) (meanings kind list.now) }
-    ensures size { kind.size result ≤ total_size kind list.now }
+    requires small { total_size W.kind list.now ≤ 2 ^ 30 }
+    ensures value { W.kind.meaning result ≡ pick (bits marks.now) (meanings W.kind list.now) }
+    ensures size { W.kind.size result ≤ total_size W.kind list.now }
 {
     let mut sum = W::zero();
     for (i, w) in list.iter().enumerate() {
@@ -86,9 +86,9 @@ pub(crate) fn mark_choices<L: Layout, W: Weight>(
     multipliers: &[W],
     marks: &mut [u8],
 )
-    requires starts { Starts (plan layout.now).rows table.now.starts table.now.rows }
-    requires edges { (length multipliers.now ≡ edges (plan layout.now).rows) × (length marks.old ≡ edges (plan layout.now).rows) }
-    ensures { marks.new ≡ bytes (choices (plan layout.now).rows (meanings kind multipliers.now)) }
+    requires starts { Starts (L.plan layout.now).rows table.now.starts table.now.rows }
+    requires edges { (length multipliers.now ≡ edges (L.plan layout.now).rows) × (length marks.old ≡ edges (L.plan layout.now).rows) }
+    ensures { marks.new ≡ bytes (choices (L.plan layout.now).rows (meanings W.kind multipliers.now)) }
 {
     for r in 0..table.rows as usize {
         let (start, end) = table.span(layout, r);

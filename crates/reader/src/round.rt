@@ -18,7 +18,7 @@ use weights::Weight;
 impl<L, W: Weight> Reading<L, W> {
     // Whether floor and ceiling are equal.
     pub(crate) fn is_met(&self) -> bool
-        ensures { result ≡ equal (kind.meaning self.now.floor) (kind.meaning self.now.ceiling) }
+        ensures { result ≡ equal (W.kind.meaning self.now.floor) (W.kind.meaning self.now.ceiling) }
     {
         !self.floor.below(self.ceiling) && !self.ceiling.below(self.floor)
     }
@@ -26,7 +26,7 @@ impl<L, W: Weight> Reading<L, W> {
     // Keeps the multipliers whose floor this is, where it is above the reading's.
     pub(crate) fn raise(&mut self, floor: W, multipliers: &[W], kept: &mut [W])
         requires { length kept.old ≡ length multipliers.now }
-        ensures after { (carried : List W) (trial word : List ℕ) → view kind (state self.new (boards carried kept.new trial word)) ≡ raised_to (kind.meaning floor) multipliers.now (view kind (state self.old (boards carried kept.old trial word))) }
+        ensures after { (carried : List W) (trial word : List ℕ) → view W.kind (state self.new (boards carried kept.new trial word)) ≡ raised_to (W.kind.meaning floor) multipliers.now (view W.kind (state self.old (boards carried kept.old trial word))) }
         ensures layout { self.new.layout ≡ self.old.layout }
     {
         if self.floor.below(floor) {
@@ -38,7 +38,7 @@ impl<L, W: Weight> Reading<L, W> {
     // Keeps the codeword of this cost, where it is below the ceiling.
     pub(crate) fn lower(&mut self, cost: W, given: &[u8], word: &mut [u8])
         requires { length word.old ≡ length given.now }
-        ensures after { (carried kept : List W) (trial : List ℕ) → view kind (state self.new (boards carried kept trial word.new)) ≡ lowered_to (kind.meaning cost) given.now (view kind (state self.old (boards carried kept trial word.old))) }
+        ensures after { (carried kept : List W) (trial : List ℕ) → view W.kind (state self.new (boards carried kept trial word.new)) ≡ lowered_to (W.kind.meaning cost) given.now (view W.kind (state self.old (boards carried kept trial word.old))) }
         ensures layout { self.new.layout ≡ self.old.layout }
     {
         if cost.below(self.ceiling) {

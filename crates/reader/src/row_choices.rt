@@ -20,9 +20,9 @@ use weights::Weight;
 // Marks the choice of one row, and answers its sum.
 fn least_sum<W: Weight>(multipliers: &[W], marks: &mut [u8]) -> W
     requires same { length multipliers.now ≡ length marks.old }
-    requires small { total_size kind multipliers.now ≤ 2 ^ 30 }
-    ensures marks { marks.new ≡ bytes (chosen (meanings kind multipliers.now)) }
-    ensures sum { kind.meaning result ≡ least (meanings kind multipliers.now) }
+    requires small { total_size W.kind multipliers.now ≤ 2 ^ 30 }
+    ensures marks { marks.new ≡ bytes (chosen (meanings W.kind multipliers.now)) }
+    ensures sum { W.kind.meaning result ≡ least (meanings W.kind multipliers.now) }
 {
     mark_choice(multipliers, marks);
     sum_marked(marks, multipliers)
@@ -35,12 +35,12 @@ fn choices_into<L: Layout, W: Weight>(
     marks: &mut [u8],
     sums: &mut [W],
 )
-    requires starts { Starts (plan layout.now).rows table.now.starts table.now.rows }
-    requires edges { (length multipliers.now ≡ edges (plan layout.now).rows) × (length marks.old ≡ edges (plan layout.now).rows) }
-    requires rows { length sums.old ≡ length (plan layout.now).rows }
-    requires small { total_size kind multipliers.now ≤ 2 ^ 30 }
-    ensures marks { marks.new ≡ bytes (choices (plan layout.now).rows (meanings kind multipliers.now)) }
-    ensures sums { meanings kind sums.new ≡ row_leasts (plan layout.now).rows (meanings kind multipliers.now) }
+    requires starts { Starts (L.plan layout.now).rows table.now.starts table.now.rows }
+    requires edges { (length multipliers.now ≡ edges (L.plan layout.now).rows) × (length marks.old ≡ edges (L.plan layout.now).rows) }
+    requires rows { length sums.old ≡ length (L.plan layout.now).rows }
+    requires small { total_size W.kind multipliers.now ≤ 2 ^ 30 }
+    ensures marks { marks.new ≡ bytes (choices (L.plan layout.now).rows (meanings W.kind multipliers.now)) }
+    ensures sums { meanings W.kind sums.new ≡ row_leasts (L.plan layout.now).rows (meanings W.kind multipliers.now) }
 {
     for r in 0..table.rows as usize {
         let (start, end) = table.span(layout, r);
@@ -56,9 +56,9 @@ pub fn choices<L: Layout, W: Weight>(
     marks: &mut [u8],
     sums: &mut [W],
 ) -> Result<(), Refusal>
-    ensures number { number_of result ≡ choices_refusal kind (plan layout.now) multipliers.now (length marks.old) (length sums.old) }
-    ensures marks { OnOk result (marks.new ≡ bytes (choices (plan layout.now).rows (meanings kind multipliers.now))) }
-    ensures sums { OnOk result (meanings kind sums.new ≡ row_leasts (plan layout.now).rows (meanings kind multipliers.now)) }
+    ensures number { number_of result ≡ choices_refusal W.kind (L.plan layout.now) multipliers.now (length marks.old) (length sums.old) }
+    ensures marks { OnOk result (marks.new ≡ bytes (choices (L.plan layout.now).rows (meanings W.kind multipliers.now))) }
+    ensures sums { OnOk result (meanings W.kind sums.new ≡ row_leasts (L.plan layout.now).rows (meanings W.kind multipliers.now)) }
     ensures same { OnErr result ((marks.new ≡ marks.old) × (sums.new ≡ sums.old)) }
 {
     check_choices(layout, multipliers, marks.len(), sums.len())?;

@@ -15,9 +15,9 @@ pub(crate) struct Table {
 
 // Copies the row r to cells, from `at` on, and says where it ends.
 fn copy_row<L: Layout>(layout: &L, r: u16, cells: &mut [u8], at: u16) -> u16
-    requires { (r < length (plan layout.now).rows) × (at + length (row_at (plan layout.now).rows r) ≤ length cells.old) × (length cells.old ≤ 1024) }
-    ensures end { result ≡ at + length (row_at (plan layout.now).rows r) }
-    ensures copied { take result cells.new ≡ take at cells.old ++ row_at (plan layout.now).rows r }
+    requires { (r < length (L.plan layout.now).rows) × (at + length (row_at (L.plan layout.now).rows r) ≤ length cells.old) × (length cells.old ≤ 1024) }
+    ensures end { result ≡ at + length (row_at (L.plan layout.now).rows r) }
+    ensures copied { take result cells.new ≡ take at cells.old ++ row_at (L.plan layout.now).rows r }
 {
     let len = layout.row_len(RowNo(r)).unwrap();
     for p in 0..len {
@@ -29,8 +29,8 @@ fn copy_row<L: Layout>(layout: &L, r: u16, cells: &mut [u8], at: u16) -> u16
 
 impl Table {
     pub(crate) fn of<L: Layout>(layout: &L) -> Table
-        ensures cells { Cells (plan layout.now).rows result.cells }
-        ensures starts { Starts (plan layout.now).rows result.starts result.rows }
+        ensures cells { Cells (L.plan layout.now).rows result.cells }
+        ensures starts { Starts (L.plan layout.now).rows result.starts result.rows }
     {
         let mut cells = [0u8; 1024];
         let mut starts = [0u16; 97];
@@ -50,19 +50,19 @@ impl Table {
 
     // The first edge of a row, and the one behind its last. The layout is the one that the table copies; it is not asked.
     pub(crate) fn span<L: Layout>(&self, layout: &L, r: usize) -> (usize, usize)
-        requires starts { Starts (plan layout.now).rows self.now.starts self.now.rows }
-        requires row { r < length (plan layout.now).rows }
-        ensures { Span (plan layout.now).rows r result.0 result.1 }
+        requires starts { Starts (L.plan layout.now).rows self.now.starts self.now.rows }
+        requires row { r < length (L.plan layout.now).rows }
+        ensures { Span (L.plan layout.now).rows r result.0 result.1 }
     {
         (self.starts[r] as usize, self.starts[r + 1] as usize)
     }
 
     // The cells of a row. The layout is the one that the table copies; it is not asked.
     pub(crate) fn row_cells<'a, L: Layout>(&'a self, layout: &L, r: usize) -> &'a [u8]
-        requires cells { Cells (plan layout.now).rows self.now.cells }
-        requires starts { Starts (plan layout.now).rows self.now.starts self.now.rows }
-        requires row { r < length (plan layout.now).rows }
-        ensures { result.now ≡ row_at (plan layout.now).rows r }
+        requires cells { Cells (L.plan layout.now).rows self.now.cells }
+        requires starts { Starts (L.plan layout.now).rows self.now.starts self.now.rows }
+        requires row { r < length (L.plan layout.now).rows }
+        ensures { result.now ≡ row_at (L.plan layout.now).rows r }
     {
         let (start, end) = self.span(layout, r);
         &self.cells[start..end]
@@ -70,9 +70,9 @@ impl Table {
 
     // The cell of each edge, of which there are n.
     pub(crate) fn edge_cells<'a, L: Layout>(&'a self, layout: &L, n: usize) -> &'a [u8]
-        requires cells { Cells (plan layout.now).rows self.now.cells }
-        requires edges { n ≡ edges (plan layout.now).rows }
-        ensures { result.now ≡ edge_cells (plan layout.now).rows }
+        requires cells { Cells (L.plan layout.now).rows self.now.cells }
+        requires edges { n ≡ edges (L.plan layout.now).rows }
+        ensures { result.now ≡ edge_cells (L.plan layout.now).rows }
     {
         &self.cells[0..n]
     }

@@ -7,7 +7,7 @@ use weights::Weight;
 impl<L, W: Weight> Reading<L, W> {
     // Floor and ceiling, the rounds made, and whether the reading is met. Whether the trial word meets the rows has no say in it.
     pub(crate) fn verdict(&self) -> Verdict<W>
-        ensures { VerdictDoes kind self.now result }
+        ensures { VerdictDoes W.kind self.now result }
     {
         let met = !self.floor.below(self.ceiling) && !self.ceiling.below(self.floor);
         Verdict {

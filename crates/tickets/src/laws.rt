@@ -6,13 +6,13 @@ use crate::TicketWeight;
 
 // A ticket that may be written is read, as the same word and multipliers.
 pub fn written_tickets_read_back<W: TicketWeight>()
-    ensures { ReadsBack W.Weight.kind codec }
+    ensures { ReadsBack W.Weight.kind W.codec }
 {}
 
 // Bytes that are read at all are the ticket of what is read, and no other bytes read as the same.
 pub fn only_written_tickets_are_read<W: TicketWeight>()
-    ensures only { OnlyWritten W.Weight.kind codec }
-    ensures unlike { NeverAlike W.Weight.kind codec }
+    ensures only { OnlyWritten W.Weight.kind W.codec }
+    ensures unlike { NeverAlike W.Weight.kind W.codec }
 {}
 
 // Written tickets, by computation.

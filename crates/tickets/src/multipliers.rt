@@ -9,7 +9,7 @@ use weights::{MULTIPLIER_SIZE, Weight};
 
 // The weight whose bytes these are, unless it is too large for a multiplier.
 fn small_weight<W: TicketWeight>(bytes: &[u8]) -> Option<W>
-    ensures { result ≡ small W.Weight.kind (codec.get bytes.now) }
+    ensures { result ≡ small W.Weight.kind (W.codec.get bytes.now) }
 {
     match W::from_bytes(bytes) {
         Some(weight) if weight.size() <= MULTIPLIER_SIZE => Some(weight),
@@ -19,7 +19,7 @@ fn small_weight<W: TicketWeight>(bytes: &[u8]) -> Option<W>
 
 // The multiplier with which the records begin, and what lies behind it.
 fn first_multiplier<W: TicketWeight>(records: &[u8]) -> Option<(W, &[u8])>
-    ensures { MatchOption result (multiplier_at W.Weight.kind codec records.now ≡ None) (λ p. (multiplier_at W.Weight.kind codec records.now ≡ Some p.0) × (p.1.now ≡ drop (2 + codec.width) records.now)) }
+    ensures { MatchOption result (multiplier_at W.Weight.kind W.codec records.now ≡ None) (λ p. (multiplier_at W.Weight.kind W.codec records.now ≡ Some p.0) × (p.1.now ≡ drop (2 + W.codec.width) records.now)) }
 {
     let rest = behind_mark(records, MULTIPLIER_MARK)?;
     let (bytes, behind) = rest.split_at_checked(W::width() as usize)?;
@@ -29,7 +29,7 @@ fn first_multiplier<W: TicketWeight>(records: &[u8]) -> Option<(W, &[u8])>
 
 // Whether the part has the records of so many multipliers, and nothing behind them.
 pub(crate) fn are_multipliers<W: TicketWeight>(part: &[u8], edges: usize) -> bool
-    ensures { result ≡ is_some (multipliers_in W.Weight.kind codec edges part.now) }
+    ensures { result ≡ is_some (multipliers_in W.Weight.kind W.codec edges part.now) }
 {
     let mut left = part;
     let mut missing = edges;
@@ -45,8 +45,8 @@ pub(crate) fn are_multipliers<W: TicketWeight>(part: &[u8], edges: usize) -> boo
 
 // Reads the multipliers of a part that has one for each place of the work list.
 pub(crate) fn read_multipliers<W: TicketWeight>(part: &[u8], work: &mut [W])
-    requires { is_some (multipliers_in W.Weight.kind codec (length work.old) part.now) ≡ true }
-    ensures { Some work.new ≡ multipliers_in W.Weight.kind codec (length work.old) part.now }
+    requires { is_some (multipliers_in W.Weight.kind W.codec (length work.old) part.now) ≡ true }
+    ensures { Some work.new ≡ multipliers_in W.Weight.kind W.codec (length work.old) part.now }
 {
     let mut left = part;
     for i in 0..work.len() {

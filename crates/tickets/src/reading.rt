@@ -14,7 +14,7 @@ use refusals::Refusal;
 
 // Whether the head says the kind and the layout's counts.
 fn is_expected<L: Layout, W: TicketWeight>(layout: &L, head: Head) -> bool
-    ensures { result ≡ says W.TicketWeight.codec.kind_byte (counts (plan layout.now)) head }
+    ensures { result ≡ says W.TicketWeight.codec.kind_byte (counts (L.plan layout.now)) head }
 {
     head.kind == W::kind_byte()
         && u16::from(head.cells) == layout.cells()
@@ -27,8 +27,8 @@ fn parts<'a, L: Layout, W: TicketWeight>(
     layout: &L,
     bytes: &'a [u8],
 ) -> Result<(&'a [u8], &'a [u8]), Refusal>
-    ensures number { number_of result ≡ parts_refusal W.TicketWeight.codec.kind_byte (counts (plan layout.now)) bytes.now }
-    ensures value { IfOk result (λ p. (p.0.now ≡ packed_word (counts (plan layout.now)) bytes.now) × (p.1.now ≡ records_part (counts (plan layout.now)) bytes.now)) }
+    ensures number { number_of result ≡ parts_refusal W.TicketWeight.codec.kind_byte (counts (L.plan layout.now)) bytes.now }
+    ensures value { IfOk result (λ p. (p.0.now ≡ packed_word (counts (L.plan layout.now)) bytes.now) × (p.1.now ≡ records_part (counts (L.plan layout.now)) bytes.now)) }
 {
     let mut reader = TicketReader::new(bytes);
     let Some(head) = reader.head() else {
@@ -51,10 +51,10 @@ pub fn read<'a, L: Layout, W: TicketWeight>(
     bytes: &'a [u8],
     work: &mut [W],
 ) -> Result<&'a [u8], Refusal>
-    ensures number { number_of result ≡ read_refusal W.Weight.kind codec (counts (plan layout.now)) bytes.now (length work.old) }
-    ensures word { IfOk result (λ p. p.now ≡ packed_word (counts (plan layout.now)) bytes.now) }
-    ensures work { OnOk result (work.new ≡ multipliers_read W.Weight.kind codec (counts (plan layout.now)) bytes.now) }
-    ensures written { IfOk result (λ p. bytes.now ≡ ticket codec (counts (plan layout.now)) (unpacked (plan layout.now).cells p.now) work.new) }
+    ensures number { number_of result ≡ read_refusal W.Weight.kind W.codec (counts (L.plan layout.now)) bytes.now (length work.old) }
+    ensures word { IfOk result (λ p. p.now ≡ packed_word (counts (L.plan layout.now)) bytes.now) }
+    ensures work { OnOk result (work.new ≡ multipliers_read W.Weight.kind W.codec (counts (L.plan layout.now)) bytes.now) }
+    ensures written { IfOk result (λ p. bytes.now ≡ ticket W.codec (counts (L.plan layout.now)) (unpacked (L.plan layout.now).cells p.now) work.new) }
     ensures same { OnErr result (work.new ≡ work.old) }
 {
     if work.len() != layout.edges() as usize {

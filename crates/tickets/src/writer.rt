@@ -21,8 +21,8 @@ fn place(out: &mut [u8], at: usize, bytes: &[u8])
 }
 
 fn put_multiplier<W: TicketWeight>(out: &mut [u8], at: usize, multiplier: W)
-    requires { at + (2 + codec.width) ≤ length out.old }
-    ensures { out.new ≡ splice out.old at (multiplier_bytes codec multiplier) }
+    requires { at + (2 + W.codec.width) ≤ length out.old }
+    ensures { out.new ≡ splice out.old at (multiplier_bytes W.codec multiplier) }
 {
     place(out, at, &MULTIPLIER_MARK);
     let bytes = multiplier.bytes();
@@ -31,8 +31,8 @@ fn put_multiplier<W: TicketWeight>(out: &mut [u8], at: usize, multiplier: W)
 
 // Writes the records of all multipliers from a place on.
 fn put_multipliers<W: TicketWeight>(out: &mut [u8], start: usize, multipliers: &[W])
-    requires { start + length multipliers.now * (2 + codec.width) ≤ length out.old }
-    ensures { out.new ≡ splice out.old start (flat_map (multiplier_bytes codec) multipliers.now) }
+    requires { start + length multipliers.now * (2 + W.codec.width) ≤ length out.old }
+    ensures { out.new ≡ splice out.old start (flat_map (multiplier_bytes W.codec) multipliers.now) }
 {
     let mut at = start;
     for m in multipliers {
@@ -42,7 +42,7 @@ fn put_multipliers<W: TicketWeight>(out: &mut [u8], start: usize, multipliers: &
 }
 
 fn head_of<L: Layout, W: TicketWeight>(layout: &L) -> [u8; 7]
-    ensures { result ≡ head_bytes W.TicketWeight.codec.kind_byte (counts (plan layout.now)) }
+    ensures { result ≡ head_bytes W.TicketWeight.codec.kind_byte (counts (L.plan layout.now)) }
 {
     let [first, second] = HEAD_MARK;
     let edges = layout.edges();
@@ -59,7 +59,7 @@ fn head_of<L: Layout, W: TicketWeight>(layout: &L) -> [u8; 7]
 
 // How many bytes the tickets over a layout take.
 pub fn ticket_len<L: Layout, W: TicketWeight>(layout: &L) -> usize
-    ensures { result ≡ ticket_size codec (counts (plan layout.now)) }
+    ensures { result ≡ ticket_size W.codec (counts (L.plan layout.now)) }
 {
     9 + packed_len(layout.cells() as usize) + layout.edges() as usize * (2 + W::width() as usize)
 }
@@ -71,9 +71,9 @@ fn check<L: Layout, W: TicketWeight>(
     multipliers: &[W],
     room: usize,
 ) -> Result<usize, Refusal>
-    ensures number { number_of result ≡ write_refusal W.Weight.kind codec (counts (plan layout.now)) word.now multipliers.now room }
-    ensures length { IfOk result (λ n. n ≡ length (ticket codec (counts (plan layout.now)) word.now multipliers.now)) }
-    ensures fit { OnOk result (Writable codec word.now multipliers.now room) }
+    ensures number { number_of result ≡ write_refusal W.Weight.kind W.codec (counts (L.plan layout.now)) word.now multipliers.now room }
+    ensures length { IfOk result (λ n. n ≡ length (ticket W.codec (counts (L.plan layout.now)) word.now multipliers.now)) }
+    ensures fit { OnOk result (Writable W.codec word.now multipliers.now room) }
 {
     if word.len() != layout.cells() as usize || !is_word(word) {
         return Err(Refusal::GivenWord);
@@ -96,9 +96,9 @@ pub fn write<L: Layout, W: TicketWeight>(
     multipliers: &[W],
     out: &mut [u8],
 ) -> Result<usize, Refusal>
-    ensures number { number_of result ≡ write_refusal W.Weight.kind codec (counts (plan layout.now)) word.now multipliers.now (length out.old) }
-    ensures length { IfOk result (λ n. n ≡ length (ticket codec (counts (plan layout.now)) word.now multipliers.now)) }
-    ensures after { IfOk result (λ n. out.new ≡ ticket codec (counts (plan layout.now)) word.now multipliers.now ++ drop n out.old) }
+    ensures number { number_of result ≡ write_refusal W.Weight.kind W.codec (counts (L.plan layout.now)) word.now multipliers.now (length out.old) }
+    ensures length { IfOk result (λ n. n ≡ length (ticket W.codec (counts (L.plan layout.now)) word.now multipliers.now)) }
+    ensures after { IfOk result (λ n. out.new ≡ ticket W.codec (counts (L.plan layout.now)) word.now multipliers.now ++ drop n out.old) }
     ensures same { OnErr result (out.new ≡ out.old) }
 {
     let end = check(layout, word, multipliers, out.len())?;

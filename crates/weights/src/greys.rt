@@ -42,7 +42,7 @@ impl GreyCost for Paired {
 // Turns each grey into the cost at its place. Lists of different lengths are declined, and then no cost changes.
 pub fn convert<W: GreyCost>(greys: &[u8], costs: &mut [W]) -> Result<(), Refusal>
     ensures number { number_of result ≡ (if nat_eq (length greys.now) (length costs.old) then 0 else 21) }
-    ensures costs { costs.new ≡ (if nat_eq (length greys.now) (length costs.old) then map priced greys.now else costs.old) }
+    ensures costs { costs.new ≡ (if nat_eq (length greys.now) (length costs.old) then map W.priced greys.now else costs.old) }
 {
     if greys.len() != costs.len() {
         return Err(Refusal::GreyLength);

@@ -12,7 +12,7 @@ pub const MULTIPLIER_SIZE: u32 = 1 << 18;
 
 // Whether a weight is larger than the limit.
 pub fn any_beyond<W: Weight>(list: &[W], limit: u32) -> bool
-    ensures { result ≡ beyond kind limit list.now }
+    ensures { result ≡ beyond W.kind limit list.now }
 {
     for w in list {
         if w.size() > limit {
