@@ -8,11 +8,11 @@ returns-then-row-self c = search (rules, length_rows)
 pub returns : goal.returns
 returns c = search (rules, length_rows, row_is)
 
-pub slice-bounds-result-count : goal.slice-bounds-result-count
-slice-bounds-result-count c = search (rules, row_span)
+pub slice_bounds-result-count : goal.slice_bounds-result-count
+slice_bounds-result-count c = search (rules, row_span)
 
-pub slice-bounds-result-start : goal.slice-bounds-result-start
-slice-bounds-result-start c = search (rules, row_span)
+pub slice_bounds-result-start : goal.slice_bounds-result-start
+slice_bounds-result-start c = search (rules, row_span)
 
-pub slice-bounds-result-end : goal.slice-bounds-result-end
-slice-bounds-result-end c = search (rules, row_span)
+pub slice_bounds-result-end : goal.slice_bounds-result-end
+slice_bounds-result-end c = search (rules, row_span)

@@ -3,8 +3,8 @@ use Rattle.layouts.specs.ListPlan.{listed_plan}
 use Rattle.layouts.proofs.Rows.{found_short}
 use Rattle.layouts.proofs.listed.ListedLayout.row_len.Goals as goal
 
-pub overflow-cast-result : goal.overflow-cast-result
-overflow-cast-result c =
+pub overflow_cast-result : goal.overflow_cast-result
+overflow_cast-result c =
     let s = c.args.self.now in
-    let short = found_short (listed_plan s.cells s.ends.now s.entries.now s.ok) c.args.row.0 c.in-ok-row.row.now c.in-ok-row.ensures in
+    let short = found_short (listed_plan s.cells s.ends.now s.entries.now s.ok) c.args.row.0 c.in_ok-row.row.now c.in_ok-row.ensures in
     search rules
