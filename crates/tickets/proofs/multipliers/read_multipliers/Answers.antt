@@ -2,8 +2,8 @@ use Rattle.std.proofs.Common.{length, take, rules}
 use Rattle.tickets.proofs.Records.{fill_step, fill_stop, fill_done}
 use Rattle.tickets.proofs.multipliers.read_multipliers.Goals as goal
 
-pub returns-in-default : goal.returns-in-default
-returns-in-default g c = absurd (fill_stop g.W.Weight.kind g.W.TicketWeight.codec (take c.loop-i.i c.loop-i.work) _ c.loop-i.left.now _ (search rules) c.in-default.ensures c.loop-i.invariant c.requires)
+pub returns-in_default : goal.returns-in_default
+returns-in_default g c = absurd (fill_stop g.W.Weight.kind g.W.TicketWeight.codec (take c.loop-i.i c.loop-i.work) _ c.loop-i.left.now _ (search rules) c.in_default.ensures c.loop-i.invariant c.requires)
 
 pub loop-i-preserved : goal.loop-i-preserved
 loop-i-preserved g c =

@@ -6,20 +6,20 @@ use Rattle.tickets.specs.Tickets.{counts}
 use Rattle.tickets.proofs.Parted.{head_front, head_passed, word_front, unexpected, formless, formed, word_found, records_found}
 use Rattle.tickets.proofs.reading.parts.Goals as goal
 
-pub returns-then-not-is-expected : goal.returns-then-not-is-expected
-returns-then-not-is-expected g c =
+pub returns-then-not-is_expected : goal.returns-then-not-is_expected
+returns-then-not-is_expected g c =
     let n = counts (g.L.Layout.plan c.args.layout.now) in
     let front = head_front c.args.bytes.now c.new-reader.result.bytes.now c.new-reader.result.at c.head.result c.in-Some.head c.new-reader.ensures.bytes c.new-reader.ensures.place c.head.ensures.value c.in-Some.is in
     record { number = unexpected g.W.TicketWeight.codec.kind_byte n c.args.bytes.now c.in-Some.head front (search rules); value = tt }
 
-pub returns-in-default-word : goal.returns-in-default-word
-returns-in-default-word g c =
+pub returns-in_default-word : goal.returns-in_default-word
+returns-in_default-word g c =
     let n = counts (g.L.Layout.plan c.args.layout.now) in
     let bs = c.args.bytes.now in
     let front = head_front bs c.new-reader.result.bytes.now c.new-reader.result.at c.head.result c.in-Some.head c.new-reader.ensures.bytes c.new-reader.ensures.place c.head.ensures.value c.in-Some.is in
     let seven = head_passed c.new-reader.result.at c.head.new.self.at c.head.result c.in-Some.head c.new-reader.ensures.place c.in-Some.is c.head.ensures.place in
     let word = word_front bs c.head.new.self.bytes.now c.head.new.self.at c.cells.result n.cells (option_map (λ p. p.now) c.word.result) (c.head.ensures.same ∙ c.new-reader.ensures.bytes) seven c.cells.ensures c.word.ensures.value in
-    record { number = formless g.W.TicketWeight.codec.kind_byte n bs c.in-Some.head front (search rules) (word ∙ ap (option_map (λ p. p.now)) c.in-default-word.is); value = tt }
+    record { number = formless g.W.TicketWeight.codec.kind_byte n bs c.in-Some.head front (search rules) (word ∙ ap (option_map (λ p. p.now)) c.in_default-word.is); value = tt }
 
 pub returns : goal.returns
 returns g c =

@@ -13,11 +13,11 @@ returns-then-work-edges g c =
     let e = edges (g.L.Layout.plan c.args.layout.now).rows in
     record { number = other_length (length c.args.work.now) e _ (λ f. c.if-work-edges.true (f ∙ sym c.edges.ensures)); word = tt; work = tt; written = tt; same = search rules }
 
-pub returns-in-err-word : goal.returns-in-err-word
-returns-in-err-word g c =
-    let p = err_from_is_err_and c.from-residual.result c.from-residual.ensures.1 in
+pub returns-in_err-word : goal.returns-in_err-word
+returns-in_err-word g c =
+    let p = err_from_is_err_and c.from_residual.result c.from_residual.ensures.1 in
     let e = edges (g.L.Layout.plan c.args.layout.now).rows in
-    rw (p.1, p.2) record { number = parts_decline (length c.args.work.now) e _ _ c.in-err-word.field-0.0 (c.if-work-edges.false ∙ c.edges.ensures) c.in-err-word.ensures.number; word = tt; work = tt; written = tt; same = search rules }
+    rw (p.1, p.2) record { number = parts_decline (length c.args.work.now) e _ _ c.in_err-word.field-0.0 (c.if-work-edges.false ∙ c.edges.ensures) c.in_err-word.ensures.number; word = tt; work = tt; written = tt; same = search rules }
 
 pub returns : goal.returns
 returns g c =
@@ -25,16 +25,16 @@ returns g c =
     let codec = g.W.TicketWeight.codec in
     let n = counts (g.L.Layout.plan c.args.layout.now) in
     let bs = c.args.bytes.now in
-    let both = c.in-ok-word.ensures in
+    let both = c.in_ok-word.ensures in
     let word = both.value.0 in
-    let all = all_read kind codec n bs c.in-ok-word.records.now c.read-multipliers.new.work (length c.args.work.now) (c.if-work-edges.false ∙ c.edges.ensures) both.number both.value.1 c.read-multipliers.ensures in
+    let all = all_read kind codec n bs c.in_ok-word.records.now c.read_multipliers.new.work (length c.args.work.now) (c.if-work-edges.false ∙ c.edges.ensures) both.number both.value.1 c.read_multipliers.ensures in
     let accepted = all.0 in
     let work = all.1 in
     record {
       number = sym accepted;
       word = word;
       work = work;
-      written = (only_written kind codec n bs (length c.args.work.now) (λ i. (c.type-inv.bytes i).fits) accepted).0
-          ∙ ap (λ p. ticket codec n (unpacked n.cells p) (multipliers_read kind codec n bs)) (sym word) ∙ ap (ticket codec n (unpacked n.cells c.in-ok-word.word.now)) (sym work);
+      written = (only_written kind codec n bs (length c.args.work.now) (λ i. (c.type_inv.bytes i).fits) accepted).0
+          ∙ ap (λ p. ticket codec n (unpacked n.cells p) (multipliers_read kind codec n bs)) (sym word) ∙ ap (ticket codec n (unpacked n.cells c.in_ok-word.word.now)) (sym work);
       same = tt;
     }

@@ -10,4 +10,4 @@ returns c = fill_by_all (cell_bit c.args.packed.now) c.loop-i.word (length c.arg
 pub loop-i-preserved : goal.loop-i-preserved
 loop-i-preserved c k h =
     let step = fill_by_more (cell_bit c.args.packed.now) c.loop-i.word c.loop-i.i 0 (search rules) c.loop-i.invariant k h in
-    ap (λ b. get_or (set c.loop-i.word c.loop-i.i b) k 0) c.bit-of.ensures ∙ step
+    ap (λ b. get_or (set c.loop-i.word c.loop-i.i b) k 0) c.bit_of.ensures ∙ step
