@@ -9,7 +9,7 @@ slacken-requires g c =
     let p = g.L.Layout.plan c.args.layout.now in
     let f = c.requires.fit in
     let e = c.edge_cells.ensures in
-    let copy = c.copy-from-slice.ensures.after in
+    let copy = c.copy_from_slice.ensures.after in
     record {
       same = f.multipliers_long ∙ sym (ap length e);
       few = subst (λ xs. length xs ≤ 1024) (sym e) p.few_edges;

@@ -6,10 +6,10 @@ use Rattle.model.specs.Words.{bits}
 use Rattle.reader.proofs.Moved.{row_met, row_unmet}
 use Rattle.reader.proofs.edges.meets_rows.Goals as goal
 
-pub odd-dark-requires : goal.odd-dark-requires
-odd-dark-requires g c κs k h =
+pub odd_dark-requires : goal.odd_dark-requires
+odd_dark-requires g c k h =
     let p = g.L.Layout.plan c.args.layout.now in
-    let e = c.row-cells.ensures in
+    let e = c.row_cells.ensures in
     let a = ap (λ xs. get_or xs k 0) e in
     let l = ap length e in
     let b = p.below c.loop-r.r k (omega (arith, c.loop-r-test.true, c.requires.starts.all)) (omega arith) in
@@ -20,14 +20,14 @@ loop-r-preserved g c =
     let rows = (g.L.Layout.plan c.args.layout.now).rows in
     let x = bits c.args.word.now in
     row_met rows x c.loop-r.r (omega (arith, c.loop-r-test.true, c.requires.starts.all)) c.loop-r.invariant
-    (ap (λ cs. odd (at x cs)) (sym c.row-cells.ensures) ∙ sym c.odd-dark.ensures ∙ c.if-odd-dark.false)
+    (ap (λ cs. odd (at x cs)) (sym c.row_cells.ensures) ∙ sym c.odd_dark.ensures ∙ c.if-odd_dark.false)
 
-pub returns-then-odd-dark : goal.returns-then-odd-dark
-returns-then-odd-dark g c =
+pub returns-then-odd_dark : goal.returns-then-odd_dark
+returns-then-odd_dark g c =
     let rows = (g.L.Layout.plan c.args.layout.now).rows in
     let x = bits c.args.word.now in
     sym (row_unmet rows x c.loop-r.r (omega (arith, c.loop-r-test.true, c.requires.starts.all))
-    (ap (λ cs. odd (at x cs)) (sym c.row-cells.ensures) ∙ sym c.odd-dark.ensures ∙ c.if-odd-dark.true))
+    (ap (λ cs. odd (at x cs)) (sym c.row_cells.ensures) ∙ sym c.odd_dark.ensures ∙ c.if-odd_dark.true))
 
 pub returns : goal.returns
 returns g c =

@@ -8,9 +8,9 @@ loop-r-preserved g c =
     let start = c.span-start.result.0 in
     let end = c.span-start.result.1 in
     let h : c.loop-r.r < length rows = omega (arith, c.requires.starts.all) in
-    let l : length c.mark-choice.new.marks ≡ end - start = search rules in
-    row_marked g.W.Weight.kind rows c.args.multipliers.now c.loop-r.marks c.mark-choice.new.marks c.loop-r.r start end h c.span-start.ensures
-    (c.loop-r.auto.marks ∙ c.requires.edges.1) c.mark-choice.ensures l c.loop-r.invariant
+    let l : length c.mark_choice.new.marks ≡ end - start = search rules in
+    row_marked g.W.Weight.kind rows c.args.multipliers.now c.loop-r.marks c.mark_choice.new.marks c.loop-r.r start end h c.span-start.ensures
+    (c.loop-r.auto.marks ∙ c.requires.edges.1) c.mark_choice.ensures l c.loop-r.invariant
 
 pub returns : goal.returns
 returns g c =

@@ -8,10 +8,10 @@ pub loop-i-preserved : goal.loop-i-preserved
 loop-i-preserved g c =
     let w = c.index-list-i.result in
     let hm : c.loop-i.i < length c.loop-i.marks = omega (arith, c.requires, c.loop-i.auto.marks) in (
-      mark_step g.W.Weight.kind c.args.list.now c.loop-i.i w c.loop-i.marks c.is-negative-negative.result c.byte-of.result c.loop-i-test.true hm c.index-list-i.is
-          c.is-negative-negative.ensures c.byte-of.ensures c.loop-i.invariant.0,
-      odd_step g.W.Weight.kind c.args.list.now c.loop-i.i w c.loop-i.uneven c.is-negative-negative.result c.loop-i-test.true c.index-list-i.is
-          c.is-negative-negative.ensures c.loop-i.invariant.1,
+      mark_step g.W.Weight.kind c.args.list.now c.loop-i.i w c.loop-i.marks c.is_negative-negative.result c.byte_of.result c.loop-i-test.true hm c.index-list-i.is
+          c.is_negative-negative.ensures c.byte_of.ensures c.loop-i.invariant.0,
+      odd_step g.W.Weight.kind c.args.list.now c.loop-i.i w c.loop-i.uneven c.is_negative-negative.result c.loop-i-test.true c.index-list-i.is
+          c.is_negative-negative.ensures c.loop-i.invariant.1,
     )
 
 pub returns : goal.returns

@@ -3,8 +3,8 @@ use Rattle.std.proofs.lemmas.List.{length-take, length-drop}
 use Rattle.reader.proofs.Spans.{row_marked, rows_marked, row_summed, rows_summed, part_small}
 use Rattle.reader.proofs.row_choices.choices_into.Goals as goal
 
-pub least-sum-requires : goal.least-sum-requires
-least-sum-requires g c =
+pub least_sum-requires : goal.least_sum-requires
+least_sum-requires g c =
     let start = c.span-start.result.0 in
     let end = c.span-start.result.1 in
     record {
@@ -20,10 +20,10 @@ loop-r-preserved g c =
     let end = c.span-start.result.1 in
     let h : c.loop-r.r < length rows = omega (arith, c.requires.starts.all) in
     let hs : c.loop-r.r < length c.loop-r.sums = omega (arith, c.requires.starts.all, c.requires.rows, c.loop-r.auto.sums) in
-    let l : length c.least-sum.new.marks ≡ end - start = search rules in (
-      row_marked k rows c.args.multipliers.now c.loop-r.marks c.least-sum.new.marks c.loop-r.r start end h c.span-start.ensures
-          (c.loop-r.auto.marks ∙ c.requires.edges.1) c.least-sum.ensures.marks l c.loop-r.invariant.0,
-      row_summed k rows c.args.multipliers.now c.loop-r.sums c.least-sum.result c.loop-r.r start end h hs c.span-start.ensures c.least-sum.ensures.sum c.loop-r.invariant.1,
+    let l : length c.least_sum.new.marks ≡ end - start = search rules in (
+      row_marked k rows c.args.multipliers.now c.loop-r.marks c.least_sum.new.marks c.loop-r.r start end h c.span-start.ensures
+          (c.loop-r.auto.marks ∙ c.requires.edges.1) c.least_sum.ensures.marks l c.loop-r.invariant.0,
+      row_summed k rows c.args.multipliers.now c.loop-r.sums c.least_sum.result c.loop-r.r start end h hs c.span-start.ensures c.least_sum.ensures.sum c.loop-r.invariant.1,
     )
 
 pub returns : goal.returns

@@ -9,6 +9,6 @@ pub returns : goal.returns
 returns g c =
     let ms = meanings g.W.Weight.kind c.args.multipliers.now in
     record {
-      marks = c.mark-choice.ensures;
-      sum = c.sum-marked.ensures.value ∙ ap (λ bs. pick (bits bs) ms) c.mark-choice.ensures ∙ ap (λ bs. pick bs ms) (bits_bytes (chosen ms));
+      marks = c.mark_choice.ensures;
+      sum = c.sum_marked.ensures.value ∙ ap (λ bs. pick (bits bs) ms) c.mark_choice.ensures ∙ ap (λ bs. pick bs ms) (bits_bytes (chosen ms));
     }

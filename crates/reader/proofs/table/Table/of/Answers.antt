@@ -4,8 +4,8 @@ use Rattle.dual.proofs.Steps.{edges_more, edges_within}
 use Rattle.reader.proofs.Tables.{edge_cells_more, starts_more}
 use Rattle.reader.proofs.table.Table.of.Goals as goal
 
-pub copy-row-at-requires : goal.copy-row-at-requires
-copy-row-at-requires g c =
+pub copy_row-at-requires : goal.copy_row-at-requires
+copy_row-at-requires g c =
     let p = g.L.Layout.plan c.args.layout.now in
     let w = edges_within p.rows (c.loop-r.r + 1) in
     let m = edges_more p.rows c.loop-r.r in search rules
