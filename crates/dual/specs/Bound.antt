@@ -1,5 +1,5 @@
 -- Words, their costs, and the floor that a list of multipliers, one an edge, row by row, puts under every codeword.
-use Rattle.std.specs.Prelude.{ℕ, Bool, true, false, not, ◌&&◌, List, [], ◌∷◌, ◌++◌, map, length, get_or, take, drop, set, ℤ, pos, ◌+ℤ◌, ◌-ℤ◌, ◌*ℤ◌, slice_index_or, slice_set}
+use Rattle.std.specs.Prelude.{ℕ, Bool, true, false, not, ◌&&◌, List, [], ◌∷◌, ◌++◌, map, length, get_or, take, drop, ℤ, pos, ◌+ℤ◌, ◌-ℤ◌, ◌*ℤ◌, slice_index_or, slice_set}
 use Rattle.layouts.specs.Plans.{edge_cells}
 use Rattle.dual.specs.Choice.{negatives, odd, pick, chosen, least}
 

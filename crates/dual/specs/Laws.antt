@@ -1,5 +1,5 @@
 -- The laws of the row choice and of the floor, for any rows, costs and multipliers.
-use Rattle.std.specs.Prelude.{◌≡◌, ℕ, ◌<◌, ◌≤◌, Bool, true, false, List, length, set, ℤ, pos, ◌≤ℤ◌, Some, None, Option, ◌≢◌, slice_index_or, slice_set, unsigned_abs}
+use Rattle.std.specs.Prelude.{◌≡◌, ℕ, ◌<◌, ◌≤◌, Bool, true, false, List, length, ℤ, pos, ◌≤ℤ◌, Some, None, Option, ◌≢◌, slice_index_or, slice_set, unsigned_abs}
 use Rattle.layouts.specs.Plans.{edges}
 use Rattle.dual.specs.Choice.{negative, negatives, odd, pick, Spot, nearest, chosen, least}
 use Rattle.dual.specs.Bound.{trial_word, floor, cost, codeword, evenly, choices, lagrangian}

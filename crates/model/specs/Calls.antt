@@ -8,7 +8,7 @@ use Rattle.tickets.specs.Packs.{no_bits}
 use Rattle.tickets.specs.Codecs.{Codec}
 use Rattle.tickets.specs.Reads.{read_refusal, word_read, multipliers_read}
 use Rattle.tickets.specs.Tickets.{counts, ticket}
-use Rattle.model.specs.Model.{Model, equal, met, floor_of, cost_of, passes, raised, improved, rounds_of, fresh}
+use Rattle.model.specs.Model.{Model, equal, met, floor_of, cost_of, passes, raised, improved, rounds_of}
 
 -- whether the lengths of the five boards (costs, carried and kept multipliers, trial and kept word) are not one a cell or one an edge
 abbrev pub misfit : Plan → ℕ → ℕ → ℕ → ℕ → ℕ → Bool

@@ -1,11 +1,9 @@
 -- A reading with its boards, and how it changes: a floor that rises, a word that gets cheaper, a round.
 -- Floor and ceiling are the numbers that the reading's weights mean: of a kind it is not known which weight a sum gives.
-use Rattle.std.specs.Prelude.{ℕ, zero, suc, ◌+◌, ◌^◌, Bool, cond, not, ◌&&◌, ◌||◌, List, length, replicate, ℤ, pos, int_lt, nat_le}
+use Rattle.std.specs.Prelude.{ℕ, zero, suc, ◌+◌, Bool, cond, not, ◌&&◌, ◌||◌, List, replicate, ℤ, pos, int_lt, nat_le}
 use Rattle.layouts.specs.Plans.{Plan, edges, edge_cells}
 use Rattle.weights.specs.Kinds.{Kind, meanings}
-use Rattle.weights.specs.Sizes.{beyond}
 use Rattle.dual.specs.Bound.{floor, trial_word, cost, at, codeword, choices}
-use Rattle.tickets.specs.Packs.{no_bits}
 use Rattle.model.specs.Words.{bytes, bits}
 use Rattle.model.specs.Moves.{moved_edges}
 

@@ -1,5 +1,5 @@
 -- The floor from its two sums.
-use Rattle.std.proofs.Common.{◌≡◌, ℕ, ◌+◌, ◌^◌, ◌≤◌, List, length, ℤ, ◌+ℤ◌, ◌∙◌}
+use Rattle.std.proofs.Common.{◌≡◌, ℕ, ◌+◌, ◌^◌, ◌≤◌, List, length, ◌+ℤ◌, ◌∙◌}
 use Rattle.std.proofs.lemmas.List.{length-map}
 use Rattle.layouts.specs.Plans.{edges, edge_cells}
 use Rattle.weights.specs.Kinds.{Kind, Exact, meanings}

@@ -1,7 +1,7 @@
 -- One turn more of the passes over the edges of a round.
 use Rattle.std.proofs.Common.{◌≡◌, ℕ, zero, suc, ◌+◌, ◌-◌, ◌<◌, ◌≤◌, Bool, true, false, not, List, [], ◌∷◌, ◌++◌, length, get_or, take, drop, set, replicate, sym, refl, ap, ◌∙◌, append_assoc, arith, drop-set-lt}
 use mathlib.Core.Bool.{beq}
-use Rattle.std.proofs.lemmas.List.{take_at, drop_at, take-append-drop, take_more, take_more_set, drop_more, drop_all, take_all, drop-take, take-take, map_more, get_or-map, length-map, append-nil, replicate_more, length-replicate}
+use Rattle.std.proofs.lemmas.List.{take_at, drop_at, take-append-drop, take_more_set, drop_more, drop_all, take_all, drop-take, take-take, map_more, get_or-map, append-nil, replicate_more}
 use Rattle.layouts.specs.Plans.{edge_cells, edges, row_at}
 use Rattle.weights.specs.Kinds.{Kind}
 use Rattle.dual.specs.Choice.{xor, odd}

@@ -5,7 +5,7 @@ use Rattle.refusals.specs.declared.Refusal.{Refusal}
 use Rattle.layouts.specs.Plans.{Plan}
 use Rattle.weights.specs.Kinds.{Kind}
 use Rattle.tickets.specs.Codecs.{Codec}
-use Rattle.model.specs.Model.{Model, equal, met, fresh}
+use Rattle.model.specs.Model.{Model, equal, fresh}
 use Rattle.model.specs.Calls.{begin_refusal, run_refusal, run_after, run_answer, offer_refusal, offer_after, propose_refusal, propose_after, take_refusal, take_after, work_after, ticket_of, write_refusal}
 use Rattle.reader.specs.Rules.{step_of}
 use Rattle.reader.specs.declared.reading.Reading.{Reading}
