@@ -38,13 +38,13 @@ smallest false ms p f g = (f.0, λ k h. rw f.2 (by_sign (λ m. p.1 ≤ nat_abs m
 
 -- some place is negative where their number is odd, so a spot is there
 cheaper_smallest : (ms : List ℤ) (d a : Option Spot) → Nearest true ms d → Nearest false ms a → odd (negatives ms) ≡ true → Smallest ms (cheaper d a)
-cheaper_smallest ms None None d-is a-is o = absurd (both_ways (odd (negatives ms)) (none_odd ms d-is) o)
-cheaper_smallest ms None (Some a) d-is a-is o = absurd (both_ways (odd (negatives ms)) (none_odd ms d-is) o)
-cheaper_smallest ms (Some d) None d-is a-is o = smallest true ms d d-is (λ k h q. absurd (a-is k h q))
-cheaper_smallest ms (Some d) (Some a) d-is a-is o =
+cheaper_smallest ms None None d_is a_is o = absurd (both_ways (odd (negatives ms)) (none_odd ms d_is) o)
+cheaper_smallest ms None (Some a) d_is a_is o = absurd (both_ways (odd (negatives ms)) (none_odd ms d_is) o)
+cheaper_smallest ms (Some d) None d_is a_is o = smallest true ms d d_is (λ k h q. absurd (a_is k h q))
+cheaper_smallest ms (Some d) (Some a) d_is a_is o =
     cond_both (leb d.1 a.1) d.0 a.0 (λ i. Smallest ms (Some i))
-    (λ l. let le = leb-true d.1 a.1 l in smallest true ms d d-is (λ k h q. omega (arith, a-is.3 k h q)))
-    (λ l. let lt = leb-false d.1 a.1 l in smallest false ms a a-is (λ k h q. omega (arith, d-is.3 k h q)))
+    (λ l. let le = leb-true d.1 a.1 l in smallest true ms d d_is (λ k h q. omega (arith, a_is.3 k h q)))
+    (λ l. let lt = leb-false d.1 a.1 l in smallest false ms a a_is (λ k h q. omega (arith, d_is.3 k h q)))
 
 pub toggle_smallest : (ms : List ℤ) → odd (negatives ms) ≡ true → Smallest ms (cheaper (nearest true ms) (nearest false ms))
 toggle_smallest ms o = cheaper_smallest ms (nearest true ms) (nearest false ms) (found true ms) (found false ms) o

@@ -54,10 +54,10 @@ module _ {W : Type 0} (k : Kind W) where
   slack_step es ws left i e total m old new he hw ee hl em eo sm x tl tm =
       let lw : i < length (meanings k ws) = rw (length-map ws k.meaning) hw in
       let more = slacks_more es (meanings k ws) (meanings k left) i he lw in
-      let at-m = meaning_at k ws i m hw em in
+      let at_m = meaning_at k ws i m hw em in
       let at_old = meaning_at k left e old hl eo in
-      let in-total = size_in_total left e old hl in
-      let so : k.size old ≤ total_size k left = subst (λ w. k.size w ≤ total_size k left) (sym eo) in-total in
+      let in_total = size_in_total left e old hl in
+      let so : k.size old ≤ total_size k left = subst (λ w. k.size w ≤ total_size k left) (sym eo) in_total in
       let v = x.value (omega arith) in
       let put = map-set k.meaning left e new in
       let t = total_set left e old new hl in

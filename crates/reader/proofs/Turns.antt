@@ -63,7 +63,7 @@ module _ {W : Type 0} (k : Kind W) where
       let lb : i < length (bits marks) = rw (length-map marks marked) hm in
       let lw : i < length (meanings k ws) = rw (length-map ws k.meaning) hw in
       let more = pick_push (bits marks) (meanings k ws) i lb lw in
-      let at-w = meaning_at k ws i w hw e in
+      let at_w = meaning_at k ws i w hw e in
       let at_b : get_or (bits marks) i false ≡ marked (get_or marks i 0) = get_or-map marked marks i 0 false hm in
       let t = total_more k ws i w hw e in
       (cc, omega arith)

@@ -99,9 +99,9 @@ module _ {W : Type 0} (k : Kind W) (c : Codec W) where
       let long : length (packed x) ≡ packed_length n.cells = length-map-range_with_len (octet x) 0 (packed_length (length x)) ∙ ap packed_length ok.cells in
       let room7 : leb 7 (length bs) ≡ true = le-leb _ _ (omega arith) in
       let heads : headed bs ≡ true = and_from _ _ room7 (marked_front 0x4C 0x48 (c.kind_byte ∷ n.cells ∷ n.rows ∷ n.edges / 256 ∷ n.edges % 256 ∷ (word_bytes x ++ records))) in
-      let edge-bytes : 256 * (n.edges / 256) + n.edges % 256 ≡ n.edges = omega arith in
+      let edge_bytes : 256 * (n.edges / 256) + n.edges % 256 ≡ n.edges = omega arith in
       let names : says c.kind_byte n (head_of bs) ≡ true =
-      and_from _ _ (eq-eqb c.kind_byte c.kind_byte refl) (and_from _ _ (eq-eqb n.cells n.cells refl) (and_from _ _ (eq-eqb n.rows n.rows refl) (eq-eqb _ _ edge-bytes))) in
+      and_from _ _ (eq-eqb c.kind_byte c.kind_byte refl) (and_from _ _ (eq-eqb n.cells n.cells refl) (and_from _ _ (eq-eqb n.rows n.rows refl) (eq-eqb _ _ edge_bytes))) in
       let word : word_part n.cells (word_bytes x ++ records) ≡ Some (packed x) = ap (λ m. word_part m (word_bytes x ++ records)) (sym ok.cells) ∙ word_back x records in
       let part : packed_word n bs ≡ packed x = take_at (packed x) records (packed_length n.cells) long in
       let behind : records_part n bs ≡ records =

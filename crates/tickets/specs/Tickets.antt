@@ -1,7 +1,7 @@
 -- The ticket, byte by byte.
 use Rattle.std.specs.Prelude.{ℕ, ◌+◌, ◌*◌, ◌/◌, ◌%◌, ◌^◌, ◌≤◌, cond, not, ◌||◌, List, [], ◌∷◌, ◌++◌, length, ◌==◌, nat_lt}
 use Rattle.std.specs.List.{flat_map}
-use Rattle.layouts.specs.Plans.{Plan, edges as edges-of}
+use Rattle.layouts.specs.Plans.{Plan, edges as edges_of}
 use Rattle.weights.specs.Kinds.{Kind}
 use Rattle.weights.specs.Sizes.{beyond}
 use Rattle.tickets.specs.Packs.{Bits, no_bits, packed_length, packed}
@@ -14,7 +14,7 @@ pub record Counts : Type 0 where
   pub edges : ℕ
 
 abbrev pub counts : Plan → Counts
-counts p = record { cells = p.cells; rows = length p.rows; edges = edges-of p.rows }
+counts p = record { cells = p.cells; rows = length p.rows; edges = edges_of p.rows }
 
 -- the two bytes with which each record begins
 abbrev pub head_mark : List ℕ

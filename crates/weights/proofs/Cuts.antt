@@ -27,8 +27,8 @@ paired_path a b e f =
     let same : (p q : Within a.grey a.dark) → p ≡ q = λ p q. hlevel props in
     let P : ℤ → Type 0 = λ v. (p : Within v b.dark) → ◌≡◌ {A = Paired} a (record { grey = v; dark = b.dark; within = p }) in
     let Q : ℤ → Type 0 = λ w. (p : Within a.grey w) → ◌≡◌ {A = Paired} a (record { grey = a.grey; dark = w; within = p }) in
-    let at-grey : Q b.dark = subst Q f (λ p. ap (λ (q : Within a.grey a.dark). record { grey = a.grey; dark = a.dark; within = q }) (same a.within p)) in
-    subst P e at-grey b.within
+    let at_grey : Q b.dark = subst Q f (λ p. ap (λ (q : Within a.grey a.dark). record { grey = a.grey; dark = a.dark; within = q }) (same a.within p)) in
+    subst P e at_grey b.within
 
 pub kept_cut : (a b r z : ℤ) → nat_abs z ≤ nat_abs a + nat_abs b → r ≡ cut (2 ^ 30) z → Kept a b r z
 kept_cut a b r z h e = record {

@@ -43,6 +43,6 @@ pub trait Weight: Copy {
     fn moved(self, step: u32, up: bool) -> Self
         ensures end { result ≡ kind.moved self step up };
 
-    // Of memory alone: a local array of weights can be lent. Every type meets it by itself.
+    // Of memory alone: a local array of weights can be lent. For each implementation `search` finds the proof.
     ghost small: { Roomy Self.row };
 }

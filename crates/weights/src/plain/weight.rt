@@ -3,7 +3,7 @@ ghost use Rattle.std.specs.Prelude.{◌≡◌, ◌^◌, ◌+ℤ◌, ◌-ℤ◌};
 ghost use Rattle.weights.specs.Kinds.{Exact};
 ghost use Rattle.weights.specs.Parts.{cut, stepped};
 ghost use Rattle.weights.specs.Plains.{plain_kind};
-ghost use Rattle.std.proofs.Common.{rules, arith};
+ghost use Rattle.std.proofs.Common.{rules};
 
 use super::{Plain, part};
 use crate::Weight;
@@ -11,7 +11,7 @@ use crate::Weight;
 impl Weight for Plain {
     ghost kind = { plain_kind };
 
-    ghost small = { first_of (Prim.search rules, Prim.grind (arith, Self.row.coded.inj)) };
+    ghost small = { Prim.search rules };
 
     fn size(self) -> u32 {
         self.value.unsigned_abs()

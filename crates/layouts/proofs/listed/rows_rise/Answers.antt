@@ -14,11 +14,11 @@ done : (cells start : ℕ) (ends entries : List ℕ) (i : ℕ) → length ends �
 done cells start ends entries i h = at_drop_all (λ left. rows_rise cells (rows_from start left entries)) ends i h
 
 -- the next row starts before its end, and ends within the entries
-rise-step : (start : ℕ) (ends entries : List ℕ) (i : ℕ) → i < length ends → rise_above start (drop i ends) ≡ true
+rise_step : (start : ℕ) (ends entries : List ℕ) (i : ℕ) → i < length ends → rise_above start (drop i ends) ≡ true
     → last_end start (drop i ends) ≡ length entries
     → (start < get_or ends i 0) × (get_or ends i 0 ≤ length entries) × (rise_above (get_or ends i 0) (drop (i + 1) ends) ≡ true)
     × (last_end (get_or ends i 0) (drop (i + 1) ends) ≡ length entries)
-rise-step start ends entries i h u e =
+rise_step start ends entries i h u e =
     let end = get_or ends i 0 in let left = drop (i + 1) ends in
     let rises : (ltb start end && rise_above end left) ≡ true = sym (at_drop_more (rise_above start) ends i 0 h) ∙ u in
     let last : last_end end left ≡ length entries = sym (at_drop_more (last_end start) ends i 0 h) ∙ e in
@@ -27,23 +27,23 @@ rise-step start ends entries i h u e =
 
 pub offset_bounds-entries-start : goal.offset_bounds-entries-start
 offset_bounds-entries-start c =
-    let next = rise-step c.loop-end.start c.args.ends.now c.args.entries.now c.loop-end.end-index c.loop-end-test.true c.loop-end.invariant.1 c.loop-end.invariant.2 in
+    let next = rise_step c.loop-end.start c.args.ends.now c.args.entries.now c.loop-end.end-index c.loop-end-test.true c.loop-end.invariant.1 c.loop-end.invariant.2 in
     let fits = c.type_inv.ends c.loop-end.end-index in search rules
 
 pub slice_bounds-row_rises-count : goal.slice_bounds-row_rises-count
-slice_bounds-row_rises-count c = search (rules, rise-step)
+slice_bounds-row_rises-count c = search (rules, rise_step)
 
 pub slice_bounds-row_rises-start : goal.slice_bounds-row_rises-start
-slice_bounds-row_rises-start c = search (rules, rise-step)
+slice_bounds-row_rises-start c = search (rules, rise_step)
 
 pub slice_bounds-row_rises-end : goal.slice_bounds-row_rises-end
-slice_bounds-row_rises-end c = search (rules, rise-step)
+slice_bounds-row_rises-end c = search (rules, rise_step)
 
 pub returns-then-not-row_rises : goal.returns-then-not-row_rises
 returns-then-not-row_rises c = search (rules, step)
 
 pub loop-end-preserved : goal.loop-end-preserved
-loop-end-preserved c = search (rules, step, rise-step)
+loop-end-preserved c = search (rules, step, rise_step)
 
 pub returns : goal.returns
 returns c = search (rules, done)
