@@ -9,11 +9,10 @@ impl<L, W: Weight> Reading<L, W> {
     pub(crate) fn verdict(&self) -> Verdict<W>
         ensures { VerdictDoes W.kind self.now result }
     {
-        let met = !self.floor.below(self.ceiling) && !self.ceiling.below(self.floor);
         Verdict {
             bounds: (self.floor, self.ceiling),
             rounds: self.rounds,
-            met,
+            met: self.is_met(),
         }
     }
 }
