@@ -42,20 +42,20 @@ module _ {W : Type 0} (k : Kind W) where
   pub multipliers_total : (p : Plan) (ms : List W) → length ms ≡ edges p.rows → Within k (2 ^ 18) ms → total_size k ms ≤ 2 ^ 28
   multipliers_total p ms l w = let t = total_bound k (2 ^ 18) ms w in omega (arith, p.few_edges)
 
-  pub fits : (p : Plan) (costs ms : List W) (n : ℕ) → floor_refusal k p costs ms n ≡ 0 → Fit k p costs ms n
+  pub fits : (p : Plan) (costs ms : List W) (n : ℕ) → floor_refusal k p costs ms n ≡ 0 → Fit k p costs ms × (n ≡ p.cells)
   fits p costs ms n e =
       let c : eqb (length costs) p.cells ≡ true = grind arith in
       let m : eqb (length ms) (edges p.rows) ≡ true = grind arith in
       let o : eqb n p.cells ≡ true = grind arith in
       let x : beyond k (2 ^ 16) costs ≡ false = grind arith in
       let y : beyond k (2 ^ 18) ms ≡ false = grind arith in
-      record {
+      let fit : Fit k p costs ms = record {
         costs_long = eqb-true _ _ c;
         multipliers_long = eqb-true _ _ m;
-        output_long = eqb-true _ _ o;
         costs_small = not_beyond k (2 ^ 16) costs x;
         multipliers_small = not_beyond k (2 ^ 18) ms y;
-      }
+      } in
+      (fit, eqb-true _ _ o)
 
   -- the same for the choices
   pub choices_fit : (p : Plan) (ms : List W) (m n : ℕ) → choices_refusal k p ms m n ≡ 0

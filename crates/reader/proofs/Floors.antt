@@ -6,7 +6,7 @@ use Rattle.weights.specs.Kinds.{Kind, Exact, meanings}
 use Rattle.dual.specs.Choice.{negatives, pick}
 use Rattle.dual.specs.Bound.{slacks, choices, floor}
 use Rattle.dual.proofs.Steps.{leasts_is_pick}
-use Rattle.reader.specs.Words.{bytes, bits}
+use Rattle.model.specs.Words.{bytes, bits}
 use Rattle.reader.proofs.Turns.{bits_bytes}
 
 module _ {W : Type 0} (k : Kind W) where

@@ -1,7 +1,8 @@
 -- One turn more of the passes over the edges of a round.
+use Rattle.std.specs.Prelude.{slice_range}
 use Rattle.std.proofs.Common.{◌≡◌, ℕ, zero, suc, ◌+◌, ◌-◌, ◌<◌, ◌≤◌, Bool, true, false, not, List, [], ◌∷◌, ◌++◌, length, get_or, take, drop, set, replicate, sym, refl, ap, ◌∙◌, append_assoc, arith, drop-set-lt}
 use mathlib.Core.Bool.{beq}
-use Rattle.std.proofs.lemmas.List.{take_at, drop_at, take-append-drop, take_more_set, drop_more, drop_all, take_all, drop-take, take-take, map_more, get_or-map, append-nil, replicate_more}
+use Rattle.std.proofs.lemmas.List.{take_at, drop_at, take-append-drop, take_more_set, drop_more, drop_all, take_all, drop-take, map_more, get_or-map, append-nil, replicate_more}
 use Rattle.layouts.specs.Plans.{edge_cells, edges, row_at}
 use Rattle.weights.specs.Kinds.{Kind}
 use Rattle.dual.specs.Choice.{xor, odd}
@@ -9,18 +10,20 @@ use Rattle.dual.specs.Bound.{at, codeword}
 use Rattle.dual.proofs.Steps.{odd_push, codeword_more}
 use Rattle.model.specs.Moves.{moved_edge, moved_edges}
 use Rattle.model.specs.Words.{marked, bits}
+use Rattle.reader.specs.Tables.{Span}
 use Rattle.reader.proofs.Tables.{edge_cells_more}
 
 -- the bit of a cell
 pub bit_at : (word : List ℕ) (c : ℕ) → c < length word → get_or (bits word) c false ≡ marked (get_or word c 0)
 bit_at word c h = get_or-map marked word c 0 false h
 
-pub dark_step : (word cells : List ℕ) (i : ℕ) (o b : Bool) → i < length cells → get_or cells i 0 < length word → b ≡ marked (get_or word (get_or cells i 0) 0)
+pub dark_step : (word cells : List ℕ) (i e : ℕ) (o b : Bool) → i < length cells → e ≡ get_or cells i 0 → e < length word → b ≡ marked (get_or word e 0)
     → o ≡ odd (at (bits word) (take i cells)) → not (beq o b) ≡ odd (at (bits word) (take (i + 1) cells))
-dark_step word cells i o b h l e inv =
+dark_step word cells i e o b h q l s inv =
     let f : ℕ → Bool = λ c. get_or (bits word) c false in
     let more = ap odd (map_more f cells i 0 h) ∙ odd_push (at (bits word) (take i cells)) (f (get_or cells i 0)) in
-    let here = bit_at word (get_or cells i 0) l in
+    let same = ap f q in
+    let here = bit_at word e l in
     let x : xor o b ≡ not (beq o b) = grind arith in
     cc
 
@@ -71,15 +74,12 @@ front_cells rows r =
     ∙ ap (take (edges (take r rows))) (edge_cells_append (take r rows) (drop r rows))
     ∙ take_at (edge_cells (take r rows)) (edge_cells (drop r rows)) (edges (take r rows)) refl
 
-pub row_copied : (rows : List (List ℕ)) (cells : List ℕ) (r start end : ℕ) → r < length rows → take (edges rows) cells ≡ edge_cells rows
-    → start ≡ edges (take r rows) → end ≡ start + length (row_at rows r) → end ≡ edges (take (r + 1) rows) → end ≤ edges rows
-    → take (end - start) (drop start cells) ≡ row_at rows r
-row_copied rows cells r start end h e s l n w =
+pub row_part : (rows : List (List ℕ)) (cells : List ℕ) (r start end : ℕ) → r < length rows → cells ≡ edge_cells rows → Span rows r start end → slice_range cells start end ≡ row_at rows r
+row_part rows cells r start end h e s =
     let row : List ℕ = row_at rows r in
-    let size : end - start ≡ length row = omega arith in
+    let size : end - start ≡ length row = omega (arith, s.ends) in
     let front : take end cells ≡ edge_cells (take r rows) ++ row =
-    ap (λ j. take j cells) n ∙ sym (take-take (edges (take (r + 1) rows)) (edges rows) cells (omega arith)) ∙ ap (take (edges (take (r + 1) rows))) e
-    ∙ front_cells rows (r + 1) ∙ edge_cells_more rows r h in
-    let whole : start + length row ≡ end = omega arith in
+    ap (λ j. take j cells) s.next ∙ ap (take (edges (take (r + 1) rows))) e ∙ front_cells rows (r + 1) ∙ edge_cells_more rows r h in
+    let whole : start + length row ≡ end = omega (arith, s.ends) in
     ap (λ j. take j (drop start cells)) size ∙ sym (drop-take start (length row) cells) ∙ ap (λ j. drop start (take j cells)) whole
-    ∙ ap (drop start) front ∙ drop_at (edge_cells (take r rows)) row start (sym s)
+    ∙ ap (drop start) front ∙ drop_at (edge_cells (take r rows)) row start (sym s.begins)

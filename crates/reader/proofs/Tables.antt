@@ -1,7 +1,10 @@
 -- One row more in the copy of a layout.
-use Rattle.std.proofs.Common.{◌≡◌, ℕ, ◌+◌, ◌<◌, List, [], ◌∷◌, ◌++◌, length, get_or, take, set, sym, ap, ◌∙◌, add_assoc}
-use Rattle.std.proofs.lemmas.List.{append-nil, append_assoc, take_more, take_more_set}
-use Rattle.std.proofs.lemmas.List.Edits.{fill_by_more}
+use Rattle.std.proofs.Common.{◌≡◌, ℕ, ◌+◌, ◌-◌, ◌<◌, List, [], ◌∷◌, ◌++◌, length, get_or, take, sym, ap, ◌∙◌, subst, inl, inr, arith}
+use Rattle.std.proofs.lemmas.List.{append-nil, append_assoc, take_more, get_or_append_left, get_or-append_right}
+use Rattle.std.proofs.lemmas.Bool.{cases_lt}
+use Rattle.dual.proofs.Steps.{edges_more, edges_within}
+use Rattle.reader.specs.Tables.{Span}
+use Rattle.reader.specs.declared.table.Row.{Row}
 use Rattle.layouts.specs.Plans.{edge_cells, edges, row_at}
 
 edge_cells_push : (rows : List (List ℕ)) (row : List ℕ) → edge_cells (rows ++ row ∷ []) ≡ edge_cells rows ++ row
@@ -12,15 +15,30 @@ pub edge_cells_more : (rows : List (List ℕ)) (r : ℕ) → r < length rows →
 edge_cells_more rows r h = ap edge_cells (take_more rows r [] h) ∙ edge_cells_push (take r rows) (row_at rows r)
 
 -- one cell more of a row is copied
-pub copy_more : (cells before row : List ℕ) (at p x : ℕ) → at + p < length cells → p < length row → x ≡ get_or row p 0
-    → take (at + p) cells ≡ before ++ take p row → take (at + (p + 1)) (set cells (at + p) x) ≡ before ++ take (p + 1) row
-copy_more cells before row at p x h l e inv =
-    ap (λ n. take n (set cells (at + p) x)) (sym (add_assoc at p 1)) ∙ take_more_set cells (at + p) x h
-    ∙ ap (λ t. t ++ x ∷ []) inv ∙ append_assoc before (take p row) (x ∷ [])
+pub copied_more : (cells before row : List ℕ) (p x : ℕ) → p < length row → x ≡ get_or row p 0 → cells ≡ before ++ take p row → cells ++ x ∷ [] ≡ before ++ take (p + 1) row
+copied_more cells before row p x l e inv =
+    ap (λ t. t ++ x ∷ []) inv ∙ append_assoc before (take p row) (x ∷ [])
     ∙ ap (λ t. before ++ t) (ap (λ y. take p row ++ y ∷ []) e ∙ sym (take_more row p 0 l))
 
--- one start more is written
-pub starts_more : (rows : List (List ℕ)) (starts : List ℕ) (r at : ℕ) → r < length starts → at ≡ edges (take r rows)
-    → ((k : ℕ) → k < r → get_or starts k 0 ≡ edges (take k rows)) → (k : ℕ) → k < r + 1 → get_or (set starts r at) k 0 ≡ edges (take k rows)
-starts_more rows starts r at h e inv k l =
-    ap (λ a. get_or (set starts r a) k 0) e ∙ fill_by_more (λ n. edges (take n rows)) starts r 0 h inv k l
+-- the edges of a row whose cells were copied behind those of the rows before it
+pub span_of : (rows : List (List ℕ)) (r start end : ℕ) → r < length rows → start ≡ edges (take r rows) → end ≡ edges (take (r + 1) rows) → Span rows r start end
+span_of rows r start end h b n =
+    let m = edges_more rows r h in
+    let w = edges_within rows (r + 1) in
+    record { begins = b; ends = omega arith; next = n; within = omega arith }
+
+-- a span more is listed
+pub spans_more : (rows : List (List ℕ)) (list : List Row) (r : ℕ) (row : Row) → length list ≡ r → Span rows r row.start row.end
+    → ((k : ℕ) (d : Row) → k < r → Span rows k (get_or list k d).start (get_or list k d).end)
+    → (k : ℕ) (d : Row) → k < r + 1 → Span rows k (get_or (list ++ row ∷ []) k d).start (get_or (list ++ row ∷ []) k d).end
+spans_more rows list r row n s inv k d h =
+    elim (cases_lt k r) [
+      | inl a ↦ subst (λ (t : Row). Span rows k t.start t.end) (sym (get_or_append_left list (row ∷ []) d k (omega arith))) (inv k d a)
+      | inr b ↦
+          let e : k ≡ r = omega arith in
+          let last : get_or (list ++ row ∷ []) k d ≡ row = get_or-append_right list (row ∷ []) r k d n b ∙ ap (λ j. get_or (row ∷ []) j d) (sub_same k r e) in
+          subst (λ (t : Row). Span rows k t.start t.end) (sym last) (subst (λ j. Span rows j row.start row.end) (sym e) s)
+    ]
+  where
+    sub_same : (k r : ℕ) → k ≡ r → k - r ≡ 0
+    sub_same k r e = omega arith

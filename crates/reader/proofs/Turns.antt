@@ -1,5 +1,6 @@
 -- One turn more of each pass over a list of weights.
 use Rattle.std.proofs.Common.{◌≡◌, ℕ, zero, suc, ◌+◌, ◌^◌, ◌<◌, ◌≤◌, Bool, true, false, not, eqb, List, [], ◌∷◌, length, get_or, take, set, pos, ◌+ℤ◌, Some, sym, refl, ap, ◌∙◌, arith}
+use Rattle.std.specs.Int.{from_bool}
 use Rattle.std.proofs.lemmas.List.{take_all, take_more_set, length-map, map-append, map-set, get_or-map}
 use Rattle.std.proofs.lemmas.Int.{ints}
 use Rattle.std.proofs.lemmas.Bool.{cond-true}
@@ -7,7 +8,7 @@ use Rattle.weights.specs.Kinds.{Kind, Exact, meanings}
 use Rattle.dual.specs.Choice.{negative, negatives, odd, taken, pick, cheaper, nearest, toggle, flipped, chosen}
 use Rattle.dual.proofs.Steps.{negatives_more, pick_push, toggle_within}
 use Rattle.reader.specs.Sizes.{total_size}
-use Rattle.reader.specs.Words.{byte, bytes, marked, bits}
+use Rattle.model.specs.Words.{byte, bytes, marked, bits}
 use Rattle.reader.proofs.Rows.{meaning_at}
 use Rattle.reader.proofs.Sizes.{total_more, total_within}
 
@@ -15,6 +16,11 @@ pub bits_bytes : (bs : List Bool) → bits (bytes bs) ≡ bs
 bits_bytes [] = refl
 bits_bytes (true ∷ bs) = ap (λ r. true ∷ r) (bits_bytes bs)
 bits_bytes (false ∷ bs) = ap (λ r. false ∷ r) (bits_bytes bs)
+
+-- a flag as the number that the library makes of it
+pub byte_is : (b : Bool) → from_bool b ≡ byte b
+byte_is true = refl
+byte_is false = refl
 
 byte_turned : (bs : List Bool) (i : ℕ) → eqb (get_or (bytes bs) i 0) 0 ≡ not (get_or bs i false)
 byte_turned [] i = refl

@@ -16,10 +16,9 @@ choices_refusal k p ms m n =
     cond (not (length ms == edges p.rows) || (not (m == edges p.rows) || not (n == length p.rows))) 9
     (cond (beyond k (2 ^ 18) ms) 10 0)
 
--- boards that are not declined
-pub record Fit {W : Type 0} (k : Kind W) (p : Plan) (costs ms : List W) (n : ℕ) : Type 0 where
+-- costs and multipliers that are not declined
+pub record Fit {W : Type 0} (k : Kind W) (p : Plan) (costs ms : List W) : Type 0 where
   pub costs_long : length costs ≡ p.cells
   pub multipliers_long : length ms ≡ edges p.rows
-  pub output_long : n ≡ p.cells
   pub costs_small : Within k (2 ^ 16) costs
   pub multipliers_small : Within k (2 ^ 18) ms

@@ -1,42 +1,23 @@
-// The passes of a round beside those of the floor: whether a word meets the rows, and the moves of the multipliers.
+// The passes of a round beside those of the floor: the parity of dark cells, and the moves of the multipliers.
 // Boards are checked before.
 ghost use Rattle.std.specs.Prelude.{◌≡◌, ℕ, ◌<◌, length, replicate, slice_index};
-ghost use Rattle.layouts.specs.Plans.{edge_cells};
 ghost use Rattle.dual.specs.Choice.{odd};
-ghost use Rattle.dual.specs.Bound.{at, codeword};
+ghost use Rattle.dual.specs.Bound.{at};
 ghost use Rattle.model.specs.Moves.{moved_edge, moved_edges};
 ghost use Rattle.model.specs.Words.{bits};
-ghost use Rattle.reader.specs.Tables.{Cells, Starts};
 
-use crate::table::Table;
-use layouts::Layout;
 use weights::Weight;
 
 // Whether an odd number of these cells is dark.
-fn odd_dark(cells: &[u8], word: &[u8]) -> bool
+pub(crate) fn odd_dark(cells: &[u8], word: &[u8]) -> bool
     requires { (k : ℕ) → k < length cells.now → slice_index cells.now k < length word.now }
     ensures { result ≡ odd (at (bits word.now) cells.now) }
 {
     let mut uneven = false;
-    for i in 0..cells.len() {
-        uneven = uneven != (word[cells[i] as usize] != 0);
+    for cell in cells {
+        uneven ^= word[usize::from(*cell)] != 0;
     }
     uneven
-}
-
-// Whether the word meets every row. The layout is the one that the table copies; it is not asked.
-pub(crate) fn meets_rows<L: Layout>(layout: &L, table: &Table, word: &[u8]) -> bool
-    requires cells { Cells (L.plan layout.now).rows table.now.cells }
-    requires starts { Starts (L.plan layout.now).rows table.now.starts table.now.rows }
-    requires word { length word.now ≡ (L.plan layout.now).cells }
-    ensures { result ≡ codeword (L.plan layout.now).rows (bits word.now) }
-{
-    for r in 0..table.rows as usize {
-        if odd_dark(table.row_cells(layout, r), word) {
-            return false;
-        }
-    }
-    true
 }
 
 // The multiplier of one edge after a step: it moves where the word's bit and the row's choice differ, up for bit 0.
@@ -63,9 +44,9 @@ pub(crate) fn move_edges<W: Weight>(
     requires multipliers { length multipliers.old ≡ length cells.now }
     ensures { multipliers.new ≡ moved_edges W.kind step (at (bits word.now) cells.now) (bits marks.now) multipliers.old }
 {
-    for i in 0..cells.len() {
-        let dark = word[cells[i] as usize] != 0;
-        multipliers[i] = moved_edge(multipliers[i], step, dark, marks[i] != 0);
+    for (i, multiplier) in multipliers.iter_mut().enumerate() {
+        let dark = word[usize::from(cells[i])] != 0;
+        *multiplier = moved_edge(*multiplier, step, dark, marks[i] != 0);
     }
 }
 
@@ -73,7 +54,7 @@ pub(crate) fn move_edges<W: Weight>(
 pub(crate) fn set_all<T: Copy>(list: &mut [T], value: T)
     ensures { list.new ≡ replicate (length list.old) value }
 {
-    for i in 0..list.len() {
-        list[i] = value;
+    for place in list {
+        *place = value;
     }
 }

@@ -9,11 +9,13 @@ mod passes;
 mod reading;
 mod round;
 mod row_choices;
+
 mod steps;
 mod table;
 #[cfg(test)]
 mod tests;
 mod verdict;
+mod walks;
 
 pub use bounds::{floor, slacks};
 pub use choice::{RowChoice, choose};

@@ -1,17 +1,14 @@
 // The passes over cells and edges from which the floor and a round are made. Boards are checked before.
 ghost use Rattle.std.specs.Prelude.{◌≡◌, ℕ, ◌+◌, ◌^◌, ◌<◌, ◌≤◌, length, slice_index};
-ghost use Rattle.layouts.specs.Plans.{edges};
 ghost use Rattle.weights.specs.Kinds.{meanings};
 ghost use Rattle.dual.specs.Choice.{negatives, odd, pick, chosen};
-ghost use Rattle.dual.specs.Bound.{slacks, choices};
+ghost use Rattle.dual.specs.Bound.{slacks};
+ghost use Rattle.model.specs.Words.{bytes, bits};
 ghost use Rattle.weights.specs.Sizes.{Within};
 ghost use Rattle.reader.specs.Sizes.{total_size};
-ghost use Rattle.reader.specs.Tables.{Starts};
-ghost use Rattle.reader.specs.Words.{byte, bytes, bits};
+
 
 use crate::choice::{is_negative, turned_place};
-use crate::table::Table;
-use layouts::Layout;
 use weights::Weight;
 
 // Each edge takes its multiplier from the entry of its cell: what is left of the costs are the slacks.
@@ -24,16 +21,10 @@ pub(crate) fn slacken<W: Weight>(cells: &[u8], multipliers: &[W], left: &mut [W]
     ensures value { meanings W.kind left.new ≡ slacks cells.now (meanings W.kind multipliers.now) (meanings W.kind left.old) }
     ensures size { total_size W.kind left.new ≤ 2 ^ 23 + 2 ^ 28 }
 {
-    for i in 0..cells.len() {
-        let cell = cells[i] as usize;
-        left[cell] = left[cell].minus(multipliers[i]);
+    for (cell, multiplier) in cells.iter().zip(multipliers) {
+        let cell = usize::from(*cell);
+        left[cell] = left[cell].minus(*multiplier);
     }
-}
-
-fn byte_of(b: bool) -> u8
-    ensures { result ≡ byte b }
-{
-    if b { 1 } else { 0 }
 }
 
 // Marks the negative weights, and says whether there is an odd number of them.
@@ -43,10 +34,11 @@ pub(crate) fn mark_negatives<W: Weight>(list: &[W], marks: &mut [u8]) -> bool
     ensures parity { result ≡ odd (negatives (meanings W.kind list.now)) }
 {
     let mut uneven = false;
+    // written by place: of what `iter_mut` lends under `zip` a proof knows nothing afterwards
     for (i, w) in list.iter().enumerate() {
         let negative = is_negative(*w);
-        marks[i] = byte_of(negative);
-        uneven = uneven != negative;
+        marks[i] = u8::from(negative);
+        uneven ^= negative;
     }
     uneven
 }
@@ -58,7 +50,7 @@ pub(crate) fn mark_choice<W: Weight>(multipliers: &[W], marks: &mut [u8])
 {
     if mark_negatives(multipliers, marks) {
         if let Some(turned) = turned_place(multipliers) {
-            marks[turned] = byte_of(marks[turned] == 0);
+            marks[turned] = u8::from(marks[turned] == 0);
         }
     }
 }
@@ -71,27 +63,10 @@ pub(crate) fn sum_marked<W: Weight>(marks: &[u8], list: &[W]) -> W
     ensures size { W.kind.size result ≤ total_size W.kind list.now }
 {
     let mut sum = W::zero();
-    for (i, w) in list.iter().enumerate() {
-        if marks[i] != 0 {
+    for (mark, w) in marks.iter().zip(list) {
+        if *mark != 0 {
             sum = sum.plus(*w);
         }
     }
     sum
-}
-
-// Marks the choices of all rows, one byte an edge. The layout is the one that the table copies; it is not asked.
-pub(crate) fn mark_choices<L: Layout, W: Weight>(
-    layout: &L,
-    table: &Table,
-    multipliers: &[W],
-    marks: &mut [u8],
-)
-    requires starts { Starts (L.plan layout.now).rows table.now.starts table.now.rows }
-    requires edges { (length multipliers.now ≡ edges (L.plan layout.now).rows) × (length marks.old ≡ edges (L.plan layout.now).rows) }
-    ensures { marks.new ≡ bytes (choices (L.plan layout.now).rows (meanings W.kind multipliers.now)) }
-{
-    for r in 0..table.rows as usize {
-        let (start, end) = table.span(layout, r);
-        mark_choice(&multipliers[start..end], &mut marks[start..end]);
-    }
 }

@@ -5,14 +5,8 @@ ghost use Rattle.model.specs.Calls.{shape_refusal};
 ghost use Rattle.model.specs.Model.{equal, improved, round};
 ghost use Rattle.reader.specs.Calls.{boards, state, view};
 ghost use Rattle.reader.specs.Kernel.{raised_to, lowered_to};
-ghost use Rattle.reader.specs.Tables.{Cells, Starts};
 
-use crate::bounds::bound;
-use crate::edges::{meets_rows, move_edges};
-use crate::passes::sum_marked;
 use crate::reading::Reading;
-use crate::table::Table;
-use layouts::Layout;
 use weights::Weight;
 
 impl<L, W: Weight> Reading<L, W> {

@@ -1,9 +1,10 @@
-use Rattle.std.proofs.Common.{sym}
+use Rattle.std.proofs.Common.{◌≡◌, length, sym, subst}
+use Rattle.reader.specs.Boards.{floor_refusal, Fit}
 use Rattle.reader.proofs.Fits.{fits}
 use Rattle.reader.proofs.bounds.slacks.Goals as goal
 
-pub slacks_into-requires : goal.slacks_into-requires
-slacks_into-requires g c = record {
-  cells = c.of.ensures.cells;
-  fit = fits g.W.Weight.kind (g.L.Layout.plan c.args.layout.now) c.args.costs.now c.args.multipliers.now _ (sym c.in_ok-check_floor.ensures);
-}
+pub invariant_of-priced : goal.invariant_of-priced
+invariant_of-priced g c =
+    let k = g.W.Weight.kind in
+    let fit = fits k (g.L.Layout.plan c.args.layout.now) c.args.costs.now c.args.multipliers.now (length c.args.out.now) (sym c.in_ok-check_floor.ensures) in
+    record { fit = subst (λ l. Fit k (g.L.Layout.plan l) c.args.costs.now c.args.multipliers.now) (sym c.of-table.ensures) fit.0 }

@@ -4,5 +4,5 @@ use Rattle.dual.specs.Bound.{at}
 use Rattle.model.specs.Words.{bits}
 use Rattle.reader.proofs.edges.odd_dark.Given as goal
 
-abbrev pub invariant-loop-i : goal.invariant-loop-i
-invariant-loop-i l = l.uneven ≡ odd (at (bits l.word) (take l.i l.cells))
+abbrev pub invariant-loop-cell : goal.invariant-loop-cell
+invariant-loop-cell l = l.uneven ≡ odd (at (bits l.word) (take l.cell-index l.cells))

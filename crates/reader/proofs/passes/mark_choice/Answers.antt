@@ -1,5 +1,5 @@
-use Rattle.std.proofs.Common.{sym, ◌∙◌}
-use Rattle.reader.proofs.Turns.{turned_marks, turned_within}
+use Rattle.std.proofs.Common.{eqb, get_or, sym, ◌∙◌}
+use Rattle.reader.proofs.Turns.{byte_is, turned_marks, turned_within}
 use Rattle.reader.proofs.passes.mark_choice.Goals as goal
 
 pub bounds-marks-turned : goal.bounds-marks-turned
@@ -14,5 +14,5 @@ bounds-marks-turned-in-Some g c =
 
 pub returns-in-Some : goal.returns-in-Some
 returns-in-Some g c =
-    turned_marks g.W.Weight.kind c.args.multipliers.now c.mark_negatives.new.marks c.in-Some.turned c.byte_of.result (sym c.mark_negatives.ensures.parity ∙ c.if-mark_negatives.true)
-    c.in-Some.ensures c.mark_negatives.ensures.marks c.byte_of.ensures
+    turned_marks g.W.Weight.kind c.args.multipliers.now c.mark_negatives.new.marks c.in-Some.turned c.from.result (sym c.mark_negatives.ensures.parity ∙ c.if-mark_negatives.true)
+    c.in-Some.ensures c.mark_negatives.ensures.marks (c.from.ensures ∙ byte_is (eqb (get_or c.mark_negatives.new.marks c.in-Some.turned 0) 0))

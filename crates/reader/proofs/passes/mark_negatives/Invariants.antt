@@ -1,7 +1,7 @@
 use Rattle.std.proofs.Common.{◌≡◌, take}
 use Rattle.weights.specs.Kinds.{meanings}
 use Rattle.dual.specs.Choice.{negatives, odd}
-use Rattle.reader.specs.Words.{bytes}
+use Rattle.model.specs.Words.{bytes}
 use Rattle.reader.proofs.passes.mark_negatives.Given as goal
 
 abbrev pub invariant-loop-i : goal.invariant-loop-i

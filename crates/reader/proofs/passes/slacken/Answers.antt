@@ -1,27 +1,20 @@
-use Rattle.std.proofs.Common.{ℕ, ◌+◌, ◌*◌, ◌^◌, ◌<◌, ◌≤◌, length, get_or, drop, sym, refl, ◌∙◌, subst, arith}
-use Rattle.weights.specs.Kinds.{meanings}
-use Rattle.dual.proofs.Steps.{slacks_all}
+use Rattle.std.proofs.Common.{◌≡◌, ℕ, ◌+◌, ◌*◌, ◌^◌, ◌<◌, ◌≤◌, List, [], ◌∷◌, ◌++◌, length, get_or, sym, refl, ◌∙◌, subst, arith, rules}
+use Rattle.std.proofs.lemmas.List.{length-append}
+use Rattle.std.proofs.lemmas.Slice.Zip.{zip_turn}
 use Rattle.reader.proofs.Sizes.{slack_step}
 use Rattle.reader.proofs.passes.slacken.Goals as goal
 
-pub loop-i-preserved : goal.loop-i-preserved
-loop-i-preserved g c =
+pub loop-cell-preserved : goal.loop-cell-preserved
+loop-cell-preserved g c =
     let k = g.W.Weight.kind in
-    let i : ℕ = c.loop-i.i in
-    let m = c.index-multipliers-i.result in
+    let i : ℕ = length c.loop-cell.yielded in
+    let m = c.in-Some.multiplier.now in
     let old = c.index-left-cell.result in
-    let he : i < length c.args.cells.now = omega arith in
-    let hm : i < length c.args.multipliers.now = omega (arith, c.requires.same) in
-    let hl : get_or c.args.cells.now i 0 < length c.loop-i.left = omega (arith, c.requires.inside i he, c.loop-i.auto.left) in
-    let sm : k.size m ≤ 2 ^ 18 = subst (λ w. k.size w ≤ 2 ^ 18) (sym c.index-multipliers-i.is) (c.requires.small i m hm) in
-    let step = slack_step k c.args.cells.now c.args.multipliers.now c.loop-i.left i (get_or c.args.cells.now i 0) (2 ^ 23 + i * 2 ^ 18) m old c.minus.result
-    he hm refl hl c.index-multipliers-i.is c.index-left-cell.is sm c.minus.ensures.difference c.loop-i.invariant.1 (omega (arith, c.requires.few)) in
-    (step.0 ∙ c.loop-i.invariant.0, omega (arith, step.1))
-
-pub returns : goal.returns
-returns g c =
-    let k = g.W.Weight.kind in
-    record {
-      value = sym (slacks_all c.args.cells.now (drop c.loop-i.i (meanings k c.args.multipliers.now)) (meanings k c.loop-i.left) c.loop-i.i c.loop-i-test.false) ∙ c.loop-i.invariant.0;
-      size = omega (arith, c.loop-i.invariant.1, c.requires.few);
-    }
+    let t = zip_turn c.args.cells.now c.args.multipliers.now c.loop-cell.yielded c.into_iter-cell-iterator.result c.loop-cell.cell-iterator c.next.new.self c.next.result
+    (search rules) (search rules) c.loop-cell.yielded_by (c.in-Some.cell, c.in-Some.multiplier) c.in-Some.is c.next.ensures.steps in
+    let e : c.from-cell.result ≡ get_or c.args.cells.now i 0 = c.from-cell.ensures ∙ t.2 0 in
+    let hl : c.from-cell.result < length c.loop-cell.left = omega (arith, c.requires.inside i t.0, c.loop-cell.auto.left) in
+    let sm : k.size m ≤ 2 ^ 18 = subst (λ w. k.size w ≤ 2 ^ 18) (sym (t.3 m)) (c.requires.small i m t.1) in
+    let step = slack_step k c.args.cells.now c.args.multipliers.now c.loop-cell.left i c.from-cell.result (2 ^ 23 + i * 2 ^ 18) m old c.minus.result
+    t.0 t.1 e hl (t.3 m) c.index-left-cell.is sm c.minus.ensures.difference c.loop-cell.invariant.1 (omega (arith, c.requires.few)) in
+    rw (length-append c.loop-cell.yielded ((c.in-Some.cell, c.in-Some.multiplier) ∷ [])) (step.0 ∙ c.loop-cell.invariant.0, omega (arith, step.1))

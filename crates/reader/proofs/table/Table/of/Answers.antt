@@ -1,27 +1,31 @@
-use Rattle.std.proofs.Common.{◌+◌, ◌<◌, length, arith, rules}
-use Rattle.std.proofs.lemmas.List.{take_all, length-set}
+use Rattle.std.proofs.Common.{◌≡◌, ◌+◌, ◌<◌, ◌∷◌, [], ◌++◌, length, get_or, take, sym, ap, ◌∙◌, subst, arith}
+use Rattle.std.proofs.lemmas.List.{length-append}
+use Rattle.layouts.specs.Plans.{edges, row_at}
 use Rattle.dual.proofs.Steps.{edges_more, edges_within}
-use Rattle.reader.proofs.Tables.{edge_cells_more, starts_more}
+use Rattle.reader.specs.Tables.{Span}
+use Rattle.reader.specs.declared.table.Row.{Row}
+use Rattle.reader.proofs.Tables.{edge_cells_more, span_of, spans_more}
 use Rattle.reader.proofs.table.Table.of.Goals as goal
 
-pub copy_row-at-requires : goal.copy_row-at-requires
-copy_row-at-requires g c =
+pub copy_row-requires-clause-room : goal.copy_row-requires-clause-room
+copy_row-requires-clause-room g c =
     let p = g.L.Layout.plan c.args.layout.now in
-    let w = edges_within p.rows (c.loop-r.r + 1) in
-    let m = edges_more p.rows c.loop-r.r in search rules
+    let l = ap length c.loop-row.invariant.cells in
+    let m = edges_more p.rows c.loop-row.row (omega arith) in
+    let w = edges_within p.rows (c.loop-row.row + 1) in
+    omega (arith, p.few_edges)
 
-pub loop-r-preserved : goal.loop-r-preserved
-loop-r-preserved g c =
-    let p = g.L.Layout.plan c.args.layout.now in
-    let h : c.loop-r.r < length p.rows = omega arith in
-    let t = edges_more p.rows c.loop-r.r h in
-    let f = edge_cells_more p.rows c.loop-r.r h in (
-      search rules,
-      search rules,
-      starts_more p.rows c.loop-r.starts c.loop-r.r c.loop-r.at (omega arith) c.loop-r.invariant.0 c.loop-r.invariant.2,
-      search rules,
-      search rules,
-    )
-
-pub returns : goal.returns
-returns g c = search (rules, take_all, starts_more, length-set)
+pub loop-row-preserved : goal.loop-row-preserved
+loop-row-preserved g c =
+    let rows = (g.L.Layout.plan c.args.layout.now).rows in
+    let r = c.loop-row.row in
+    let h : r < length rows = omega arith in
+    let row : Row = record { start = c.len-start.result; end = c.len-end.result } in
+    let e = c.copy_row.ensures ∙ ap (λ xs. xs ++ row_at rows r) c.loop-row.invariant.cells ∙ sym (edge_cells_more rows r h) in
+    let s = span_of rows r c.len-start.result c.len-end.result h (c.len-start.ensures.value ∙ ap length c.loop-row.invariant.cells) (c.len-end.ensures.value ∙ ap length e) in
+    record {
+      cells = e;
+      count = omega (arith, c.push.ensures.len, c.loop-row.invariant.count);
+      each = λ k d l. subst (λ (list : _). Span rows k (get_or list k d).start (get_or list k d).end) (sym c.push.ensures.items)
+          (spans_more rows c.loop-row.rows.items r row c.loop-row.invariant.count s c.loop-row.invariant.each k d l);
+    }
