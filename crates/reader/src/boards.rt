@@ -1,5 +1,5 @@
 // The checks of a caller's boards.
-ghost use Rattle.std.specs.Prelude.{◌≡◌, not};
+ghost use Rattle.std.specs.Prelude.{◌≡◌, not, length};
 ghost use Rattle.refusals.specs.Numbers.{number_of};
 ghost use Rattle.model.specs.Calls.{misfit, begin_refusal, shape_refusal};
 ghost use Rattle.reader.specs.Boards.{floor_refusal, choices_refusal};
@@ -18,8 +18,8 @@ pub(crate) fn check_floor<L: Layout, W: Weight>(
 ) -> Result<(), Refusal>
     ensures { number_of result ≡ floor_refusal W.kind (L.plan layout.now) costs.now multipliers.now n }
 {
-    let cells = layout.cells() as usize;
-    if costs.len() != cells || multipliers.len() != layout.edges() as usize || n != cells {
+    let cells = usize::from(layout.cells());
+    if costs.len() != cells || multipliers.len() != usize::from(layout.edges()) || n != cells {
         return Err(Refusal::BoardLength);
     }
     if any_beyond(costs, COST_SIZE) || any_beyond(multipliers, MULTIPLIER_SIZE) {
@@ -37,8 +37,8 @@ pub(crate) fn check_choices<L: Layout, W: Weight>(
 ) -> Result<(), Refusal>
     ensures { number_of result ≡ choices_refusal W.kind (L.plan layout.now) multipliers.now m n }
 {
-    let edges = layout.edges() as usize;
-    if multipliers.len() != edges || m != edges || n != layout.rows() as usize {
+    let edges = usize::from(layout.edges());
+    if multipliers.len() != edges || m != edges || n != usize::from(layout.rows()) {
         return Err(Refusal::BoardLength);
     }
     if any_beyond(multipliers, MULTIPLIER_SIZE) {
@@ -47,63 +47,59 @@ pub(crate) fn check_choices<L: Layout, W: Weight>(
     Ok(())
 }
 
-// Whether boards of these lengths (costs, carried and kept multipliers, trial and kept word) fit the layout.
-fn is_fitting<L: Layout>(layout: &L, c: usize, a: usize, b: usize, t: usize, w: usize) -> bool
-    ensures { result ≡ not (misfit (L.plan layout.now) c a b t w) }
-{
-    let cells = layout.cells() as usize;
-    let edges = layout.edges() as usize;
-    c == cells && a == edges && b == edges && t == cells && w == cells
+// The boards of a reading, as a call is given them: costs, carried and kept multipliers, trial word and kept word.
+#[derive(Drop)]
+pub(crate) struct Boards<'a, W> {
+    pub(crate) costs: &'a [W],
+    pub(crate) carried: &'a [W],
+    pub(crate) kept: &'a [W],
+    pub(crate) trial: &'a [u8],
+    pub(crate) word: &'a [u8],
 }
 
-// The boards with which a reading begins: of those to be filled, the lengths alone.
-pub(crate) fn check_new<L: Layout, W: Weight>(
-    layout: &L,
-    costs: &[W],
-    carried: usize,
-    kept: usize,
-    trial: usize,
-    word: usize,
-) -> Result<(), Refusal>
-    ensures { number_of result ≡ begin_refusal W.kind (L.plan layout.now) costs.now carried kept trial word }
-{
-    if !is_fitting(layout, costs.len(), carried, kept, trial, word) {
-        return Err(Refusal::BoardLength);
-    }
-    if any_beyond(costs, COST_SIZE) {
-        return Err(Refusal::BoardValue);
-    }
-    Ok(())
-}
-
-// The boards of a reading.
-pub(crate) fn check_boards<L: Layout, W: Weight>(
-    layout: &L,
-    costs: &[W],
-    carried: &[W],
-    kept: &[W],
-    trial: &[u8],
-    word: &[u8],
-) -> Result<(), Refusal>
-    ensures { number_of result ≡ shape_refusal W.kind (L.plan layout.now) costs.now carried.now kept.now trial.now word.now }
-{
-    if !is_fitting(
-        layout,
-        costs.len(),
-        carried.len(),
-        kept.len(),
-        trial.len(),
-        word.len(),
-    ) {
-        return Err(Refusal::BoardLength);
-    }
-    if any_beyond(costs, COST_SIZE)
-        || any_beyond(carried, MULTIPLIER_SIZE)
-        || any_beyond(kept, MULTIPLIER_SIZE)
-        || !is_word(trial)
-        || !is_word(word)
+impl<W: Weight> Boards<'_, W> {
+    // Whether they have one entry a cell, or one an edge.
+    fn are_fitting<L: Layout>(&self, layout: &L) -> bool
+        ensures { result ≡ not (misfit (L.plan layout.now) (length self.now.costs.now) (length self.now.carried.now) (length self.now.kept.now) (length self.now.trial.now) (length self.now.word.now)) }
     {
-        return Err(Refusal::BoardValue);
+        let cells = usize::from(layout.cells());
+        let edges = usize::from(layout.edges());
+        self.costs.len() == cells
+            && self.carried.len() == edges
+            && self.kept.len() == edges
+            && self.trial.len() == cells
+            && self.word.len() == cells
     }
-    Ok(())
+
+    // Whether a reading may begin with them: of those to be filled, the lengths alone count.
+    pub(crate) fn check_new<L: Layout>(&self, layout: &L) -> Result<(), Refusal>
+        ensures { number_of result ≡ begin_refusal W.kind (L.plan layout.now) self.now.costs.now (length self.now.carried.now) (length self.now.kept.now) (length self.now.trial.now) (length self.now.word.now) }
+    {
+        if !self.are_fitting(layout) {
+            return Err(Refusal::BoardLength);
+        }
+        if any_beyond(self.costs, COST_SIZE) {
+            return Err(Refusal::BoardValue);
+        }
+        Ok(())
+    }
+
+    // Whether a call may work on them.
+    #[tactic(auto, unfolding(model::specs::Calls::shape_refusal))]
+    pub(crate) fn check<L: Layout>(&self, layout: &L) -> Result<(), Refusal>
+        ensures { number_of result ≡ shape_refusal W.kind (L.plan layout.now) self.now.costs.now self.now.carried.now self.now.kept.now self.now.trial.now self.now.word.now }
+    {
+        if !self.are_fitting(layout) {
+            return Err(Refusal::BoardLength);
+        }
+        if any_beyond(self.costs, COST_SIZE)
+            || any_beyond(self.carried, MULTIPLIER_SIZE)
+            || any_beyond(self.kept, MULTIPLIER_SIZE)
+            || !is_word(self.trial)
+            || !is_word(self.word)
+        {
+            return Err(Refusal::BoardValue);
+        }
+        Ok(())
+    }
 }

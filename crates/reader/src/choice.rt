@@ -1,5 +1,5 @@
 // The choice of one parity row: the even set of its places with the least sum of multipliers.
-ghost use Rattle.std.specs.Prelude.{◌≡◌, true, false, slice_index_or, unsigned_abs};
+ghost use Rattle.std.specs.Prelude.{◌≡◌, true, false, nat_lt, slice_index_or, unsigned_abs};
 ghost use Rattle.std.specs.Option.{option_map};
 ghost use Rattle.weights.specs.Kinds.{meanings};
 ghost use Rattle.dual.specs.Choice.{negative, negatives, odd, nearer, nearest, cheaper, toggle, flipped};
@@ -24,9 +24,18 @@ fn odd_negatives<W: Weight>(multipliers: &[W]) -> bool
 {
     let mut uneven = false;
     for m in multipliers {
-        uneven = uneven != is_negative(*m);
+        uneven ^= is_negative(*m);
     }
     uneven
+}
+
+// Whether a weight is nearer to 0 than an older one of the same sign.
+fn is_nearer<W: Weight>(m: W, old: W, below: bool) -> bool
+    requires new { negative (W.kind.meaning m) ≡ below }
+    requires old { negative (W.kind.meaning old) ≡ below }
+    ensures { result ≡ nat_lt (unsigned_abs (W.kind.meaning m)) (unsigned_abs (W.kind.meaning old)) }
+{
+    if below { old.below(m) } else { m.below(old) }
 }
 
 // Of the spot so far and a new one of the same sign, the one nearer to 0; the earlier one at equality.
@@ -42,15 +51,8 @@ fn nearer_of<W: Weight>(
     ensures sign { OfSign W.kind below result }
 {
     match best {
-        None => Some((place, m)),
-        Some((at, old)) => {
-            let nearer = if below { old.below(m) } else { m.below(old) };
-            if nearer {
-                Some((place, m))
-            } else {
-                Some((at, old))
-            }
-        },
+        Some((at, old)) if !is_nearer(m, old, below) => Some((at, old)),
+        _ => Some((place, m)),
     }
 }
 
@@ -125,9 +127,6 @@ impl RowChoice {
     fn turns(self, place: usize) -> bool
         ensures { result ≡ turned_at self.toggled place }
     {
-        match self.toggled {
-            None => false,
-            Some(turned) => turned == place,
-        }
+        Some(place) == self.toggled
     }
 }

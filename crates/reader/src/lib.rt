@@ -9,7 +9,6 @@ mod passes;
 mod reading;
 mod round;
 mod row_choices;
-
 mod steps;
 mod table;
 #[cfg(test)]
@@ -20,4 +19,4 @@ mod walks;
 pub use bounds::{floor, slacks};
 pub use choice::{RowChoice, choose};
 pub use row_choices::choices;
-pub use steps::StepRule;
+pub use steps::{Step, StepRule};

@@ -7,7 +7,6 @@ ghost use Rattle.model.specs.Words.{bytes, bits};
 ghost use Rattle.weights.specs.Sizes.{Within};
 ghost use Rattle.reader.specs.Sizes.{total_size};
 
-
 use crate::choice::{is_negative, turned_place};
 use weights::Weight;
 

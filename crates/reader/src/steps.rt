@@ -1,53 +1,74 @@
 // The rule that gives each round its step.
-ghost use Rattle.std.specs.Prelude.{◌≡◌, ◌≤◌, true, false, IfOk, if◌then◌else◌};
+ghost use Rattle.std.specs.Prelude.{◌≡◌, ◌≤◌, IfOk};
 ghost use Rattle.refusals.specs.Numbers.{number_of};
-ghost use Rattle.reader.specs.Steps.{divided, step_refusal};
+ghost use Rattle.reader.specs.Steps.{step_refusal};
 
 use refusals::Refusal;
 
+// How far a multiplier moves: 1 to 4,096.
 #[derive(Clone, Copy, PartialEq, Eq, Debug)]
-pub struct StepRule {
-    first: u32,
-    shrinks: bool,
-    ghost within: { (1 ≤ first) × (first ≤ 4096) },
+pub struct Step {
+    size: u32,
+    ghost within: { (1 ≤ size) × (size ≤ 4096) },
+}
+
+impl Step {
+    pub fn new(size: u32) -> Result<Step, Refusal>
+        ensures number { number_of result ≡ step_refusal size }
+        ensures size { IfOk result (λ s. s.size ≡ size) }
+    {
+        if size < 1 || size > 4096 {
+            return Err(Refusal::StepRange);
+        }
+        Ok(Step { size })
+    }
+
+    pub fn size(self) -> u32
+        ensures size { result ≡ self.size }
+        ensures bounds { (1 ≤ result) × (result ≤ 4096) }
+    {
+        self.size
+    }
+}
+
+#[derive(Clone, Copy, PartialEq, Eq, Debug)]
+pub enum StepRule {
+    // the same step in every round
+    Constant(Step),
+    // the first step divided by the number of the round
+    Divided(Step),
 }
 
 impl StepRule {
+    ghost use Rattle.reader.specs.Rules.{step_of, IsConstant, IsDivided};
+
     // The same step in every round.
     pub fn constant(step: u32) -> Result<StepRule, Refusal>
         ensures number { number_of result ≡ step_refusal step }
-        ensures rule { IfOk result (λ s. (s.first ≡ step) × (s.shrinks ≡ false)) }
+        ensures rule { IfOk result (λ s. IsConstant s step) }
     {
-        StepRule::checked(step, false)
+        Ok(StepRule::Constant(Step::new(step)?))
     }
 
     // The first step divided by the number of the round.
     pub fn divided(first: u32) -> Result<StepRule, Refusal>
         ensures number { number_of result ≡ step_refusal first }
-        ensures rule { IfOk result (λ s. (s.first ≡ first) × (s.shrinks ≡ true)) }
+        ensures rule { IfOk result (λ s. IsDivided s first) }
     {
-        StepRule::checked(first, true)
-    }
-
-    fn checked(first: u32, shrinks: bool) -> Result<StepRule, Refusal>
-        ensures number { number_of result ≡ step_refusal first }
-        ensures rule { IfOk result (λ s. (s.first ≡ first) × (s.shrinks ≡ shrinks)) }
-    {
-        if first < 1 || first > 4096 {
-            return Err(Refusal::StepRange);
-        }
-        Ok(StepRule { first, shrinks })
+        Ok(StepRule::Divided(Step::new(first)?))
     }
 
     // The step of the round with this number, 1 to 4,096.
     pub fn step(self, round: u32) -> u32
-        ensures value { result ≡ (if self.shrinks then divided self.first round else self.first) }
+        ensures value { result ≡ step_of self round }
         ensures bounds { (1 ≤ result) × (result ≤ 4096) }
     {
-        if !self.shrinks {
-            return self.first;
+        match self {
+            StepRule::Constant(step) => step.size(),
+            StepRule::Divided(first) => {
+                let by = round.max(1);
+                (first.size() / by).max(1)
+            }
         }
-        let by = round.max(1);
-        (self.first / by).max(1)
     }
 }

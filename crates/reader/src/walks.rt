@@ -20,10 +20,7 @@ impl<L: Layout> Table<'_, L> {
         ensures { marks.new ≡ bytes (choices (L.plan self.now.layout.now).rows (meanings W.kind multipliers.now)) }
     {
         for row in self.rows() {
-            mark_choice(
-                row.of(multipliers),
-                &mut marks[row.start..row.end],
-            );
+            mark_choice(row.of(multipliers), &mut marks[row.start..row.end]);
         }
     }
 

@@ -1,5 +1,5 @@
-use Rattle.std.proofs.Common.{◌≡◌, length, sym, subst}
-use Rattle.reader.specs.Boards.{floor_refusal, Fit}
+use Rattle.std.proofs.Common.{length, sym, subst}
+use Rattle.reader.specs.Boards.{Fit}
 use Rattle.reader.proofs.Fits.{fits}
 use Rattle.reader.proofs.bounds.slacks.Goals as goal
 

@@ -1,4 +1,4 @@
-use Rattle.std.proofs.Common.{◌≡◌, length, sym, ap, ◌∙◌}
+use Rattle.std.proofs.Common.{length, sym, ap, ◌∙◌}
 use Rattle.layouts.specs.Plans.{edges}
 use Rattle.reader.proofs.Fits.{choices_fit}
 use Rattle.reader.proofs.row_choices.choices.Goals as goal

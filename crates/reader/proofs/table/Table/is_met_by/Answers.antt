@@ -1,4 +1,4 @@
-use Rattle.std.proofs.Common.{◌≡◌, ◌<◌, length, get_or, sym, ap, ◌∙◌, arith}
+use Rattle.std.proofs.Common.{◌<◌, length, get_or, sym, ap, ◌∙◌, arith}
 use Rattle.dual.specs.Choice.{odd}
 use Rattle.dual.specs.Bound.{at}
 use Rattle.model.specs.Words.{bits}

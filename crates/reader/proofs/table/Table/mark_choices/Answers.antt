@@ -1,4 +1,4 @@
-use Rattle.std.proofs.Common.{◌≡◌, ◌-◌, ◌<◌, length, ap, ◌∙◌, arith, rules}
+use Rattle.std.proofs.Common.{◌<◌, length, ap, ◌∙◌, arith, rules}
 use Rattle.weights.specs.Kinds.{meanings}
 use Rattle.dual.specs.Choice.{chosen}
 use Rattle.model.specs.Words.{bytes}

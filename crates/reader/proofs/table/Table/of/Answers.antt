@@ -1,6 +1,5 @@
-use Rattle.std.proofs.Common.{◌≡◌, ◌+◌, ◌<◌, ◌∷◌, [], ◌++◌, length, get_or, take, sym, ap, ◌∙◌, subst, arith}
-use Rattle.std.proofs.lemmas.List.{length-append}
-use Rattle.layouts.specs.Plans.{edges, row_at}
+use Rattle.std.proofs.Common.{◌+◌, ◌<◌, ◌++◌, length, get_or, sym, ap, ◌∙◌, subst, arith}
+use Rattle.layouts.specs.Plans.{row_at}
 use Rattle.dual.proofs.Steps.{edges_more, edges_within}
 use Rattle.reader.specs.Tables.{Span}
 use Rattle.reader.specs.declared.table.Row.{Row}

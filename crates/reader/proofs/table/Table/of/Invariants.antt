@@ -1,5 +1,3 @@
-use Rattle.std.proofs.Common.{◌≡◌, take}
-use Rattle.layouts.specs.Plans.{edge_cells}
 use Rattle.reader.specs.Tables.{Copied}
 use Rattle.reader.proofs.table.Table.of.Given as goal
 
