@@ -47,7 +47,7 @@ module _ {W : Type 0} (k : Kind W) (p : Plan) (costs : List W) where
 
   abbrev pub offer_after : List W → Model W → Model W
   offer_after list m =
-      raised k p costs list (record { rounds = m.rounds; floor = m.floor; ceiling = m.ceiling; carried = list; kept = m.kept; trial = m.trial; word = m.word })
+      raised k p costs list (record m { carried = list })
 
   -- propose. 13: a word that is not one byte a cell, or has a byte above 1; 14: a row not met
   abbrev pub propose_refusal : List ℕ → Model W → ℕ

@@ -24,6 +24,17 @@ equal a b = not (int_lt a b) && not (int_lt b a)
 abbrev pub met : {W : Type 0} → Model W → Bool
 met m = equal m.floor m.ceiling
 
+-- multipliers of the floor z, where that is above the reading's: it becomes the reading's, and they are kept
+abbrev pub raised_to : {W : Type 0} → ℤ → List W → Model W → Model W
+raised_to z ms m = cond (int_lt m.floor z) (record m { floor = z; kept = ms }) m
+
+-- a codeword of the cost z, where that is below the ceiling: it becomes the kept word, and z the ceiling
+abbrev pub with_word : {W : Type 0} → ℤ → List ℕ → Model W → Model W
+with_word z x m = record m { ceiling = z; word = x }
+
+abbrev pub lowered_to : {W : Type 0} → ℤ → List ℕ → Model W → Model W
+lowered_to z x m = cond (int_lt z m.ceiling) (with_word z x m) m
+
 module _ {W : Type 0} (k : Kind W) (p : Plan) (costs : List W) where
   -- the floor and the trial word of multipliers
   unfoldable pub floor_of : List W → ℤ
@@ -46,21 +57,15 @@ module _ {W : Type 0} (k : Kind W) (p : Plan) (costs : List W) where
 
   -- multipliers whose floor is above the reading's: it becomes the reading's, and they are kept
   abbrev pub raised : List W → Model W → Model W
-  raised ms m =
-      cond (int_lt m.floor (floor_of ms))
-      (record { rounds = m.rounds; floor = floor_of ms; ceiling = m.ceiling; carried = m.carried; kept = ms; trial = m.trial; word = m.word })
-      m
+  raised ms m = raised_to (floor_of ms) ms m
 
   -- a codeword below the ceiling: it becomes the kept word, and its cost the ceiling
   abbrev pub improved : List ℕ → Model W → Model W
-  improved x m =
-      cond (passes x && int_lt (cost_of x) m.ceiling)
-      (record { rounds = m.rounds; floor = m.floor; ceiling = cost_of x; carried = m.carried; kept = m.kept; trial = m.trial; word = x })
-      m
+  improved x m = cond (passes x && int_lt (cost_of x) m.ceiling) (with_word (cost_of x) x m) m
 
   -- the trial word is set, the carried multipliers move, and the round is counted
   abbrev pub moved_on : ℕ → List ℕ → Model W → Model W
-  moved_on step x m = record { rounds = m.rounds + 1; floor = m.floor; ceiling = m.ceiling; carried = moves step x m.carried; kept = m.kept; trial = x; word = m.word }
+  moved_on step x m = record m { rounds = m.rounds + 1; carried = moves step x m.carried; trial = x }
 
   -- a round with its step
   abbrev pub round : ℕ → Model W → Model W

@@ -5,4 +5,3 @@ pub mod Tables
 pub mod Boards
 pub mod Rules
 pub mod Calls
-pub mod Kernel

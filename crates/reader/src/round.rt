@@ -2,9 +2,8 @@
 ghost use Rattle.std.specs.Prelude.{◌≡◌, ℕ, ◌<◌, List, length};
 ghost use Rattle.layouts.specs.Plans.{edges};
 ghost use Rattle.model.specs.Calls.{shape_refusal};
-ghost use Rattle.model.specs.Model.{equal, improved, round};
+ghost use Rattle.model.specs.Model.{equal, raised_to, lowered_to};
 ghost use Rattle.reader.specs.Calls.{boards, state, view};
-ghost use Rattle.reader.specs.Kernel.{raised_to, lowered_to};
 
 use crate::reading::Reading;
 use weights::Weight;
