@@ -44,6 +44,7 @@ impl<L: Layout, W: Weight> Priced<'_, L, W> {
         ensures trial { trial.new ≡ bytes (trial_word (L.plan self.now.table.now.layout.now).rows (meanings W.kind self.now.costs.now) (meanings W.kind self.now.multipliers.now)) }
         ensures marks { marks.new ≡ bytes (choices (L.plan self.now.table.now.layout.now).rows (meanings W.kind self.now.multipliers.now)) }
     {
+        // Memory of a fixed size, since there is no heap; an `ArrayVec` would ask that weights have a default.
         let mut store = [W::zero(); 128];
         let whole = &mut store[..];
         let left = &mut whole[0..self.costs.len()];
@@ -74,6 +75,7 @@ pub fn floor<L: Layout, W: Weight>(
         costs,
         multipliers,
     };
+    // Memory of a fixed size, since there is no heap.
     let mut marks = [0u8; 1024];
     Ok(priced.bound(trial, &mut marks[0..multipliers.len()]))
 }

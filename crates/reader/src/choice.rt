@@ -29,7 +29,7 @@ fn odd_negatives<W: Weight>(multipliers: &[W]) -> bool
     uneven
 }
 
-// Whether a weight is nearer to 0 than an older one of the same sign.
+// Whether a weight is nearer to 0 than an older one of the same sign. The sign is a flag, as in the search's definition.
 fn is_nearer<W: Weight>(m: W, old: W, below: bool) -> bool
     requires new { negative (W.kind.meaning m) ≡ below }
     requires old { negative (W.kind.meaning old) ≡ below }

@@ -20,7 +20,7 @@ pub(crate) fn odd_dark(cells: &[u8], word: &[u8]) -> bool
     uneven
 }
 
-// The multiplier of one edge after a step: it moves where the word's bit and the row's choice differ, up for bit 0.
+// The multiplier of one edge after a step: it moves where the word's bit and the row's choice, two flags, differ, up for bit 0.
 fn moved_edge<W: Weight>(multiplier: W, step: u32, dark: bool, chosen: bool) -> W
     ensures { result ≡ moved_edge W.kind step dark chosen multiplier }
 {
@@ -44,13 +44,14 @@ pub(crate) fn move_edges<W: Weight>(
     requires multipliers { length multipliers.old ≡ length cells.now }
     ensures { multipliers.new ≡ moved_edges W.kind step (at (bits word.now) cells.now) (bits marks.now) multipliers.old }
 {
+    // The other lists by place: of what `iter_mut` lends under `zip` a proof knows nothing afterwards.
     for (i, multiplier) in multipliers.iter_mut().enumerate() {
         let dark = word[usize::from(cells[i])] != 0;
         *multiplier = moved_edge(*multiplier, step, dark, marks[i] != 0);
     }
 }
 
-// The same value in every place.
+// The same value in every place. `fill` asks for clones that cannot fail, which `Copy` does not promise of a type parameter.
 pub(crate) fn set_all<T: Copy>(list: &mut [T], value: T)
     ensures { list.new ≡ replicate (length list.old) value }
 {

@@ -33,7 +33,7 @@ pub(crate) fn mark_negatives<W: Weight>(list: &[W], marks: &mut [u8]) -> bool
     ensures parity { result ≡ odd (negatives (meanings W.kind list.now)) }
 {
     let mut uneven = false;
-    // written by place: of what `iter_mut` lends under `zip` a proof knows nothing afterwards
+    // Written by place: of what `iter_mut` lends under `zip` a proof knows nothing afterwards.
     for (i, w) in list.iter().enumerate() {
         let negative = is_negative(*w);
         marks[i] = u8::from(negative);

@@ -9,7 +9,7 @@ use crate::reading::Reading;
 use weights::Weight;
 
 impl<L, W: Weight> Reading<L, W> {
-    // Whether floor and ceiling are equal.
+    // Whether floor and ceiling are equal. Weights of one meaning may differ, so that the interface has no `==`.
     pub(crate) fn is_met(&self) -> bool
         ensures { result ≡ equal (W.kind.meaning self.now.floor) (W.kind.meaning self.now.ceiling) }
     {

@@ -35,7 +35,7 @@ pub(crate) struct Table<'a, L: Layout> {
     ghost rows_copied: { Rows (L.plan layout.now).rows rows.items },
 }
 
-// Adds the cells of a row. Rows and their places are asked for by number.
+// Adds the cells of a row. A layout is asked for the cell of a place by number.
 fn copy_row<L: Layout>(layout: &L, row: RowNo, cells: &mut ArrayVec<u8, 1024>)
     requires row { row.0 < length (L.plan layout.now).rows }
     requires room { array_vec_len cells.old + length (row_at (L.plan layout.now).rows row.0) ≤ 1024 }
@@ -54,6 +54,7 @@ impl<'a, L: Layout> Table<'a, L> {
     {
         let mut cells = ArrayVec::new();
         let mut rows = ArrayVec::new();
+        // A layout is asked for its rows by number.
         for row in 0..layout.rows() {
             let start = cells.len();
             copy_row(layout, RowNo(row), &mut cells);

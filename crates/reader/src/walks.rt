@@ -32,6 +32,7 @@ impl<L: Layout> Table<'_, L> {
         requires small { total_size W.kind multipliers.now ≤ 2 ^ 30 }
         ensures { meanings W.kind sums.new ≡ row_leasts (L.plan self.now.layout.now).rows (meanings W.kind multipliers.now) }
     {
+        // Written by place: of what `iter_mut` lends under `zip` a proof knows nothing afterwards.
         for (i, row) in self.rows().iter().enumerate() {
             sums[i] = sum_marked(row.of(marks), row.of(multipliers));
         }
