@@ -1,8 +1,8 @@
 -- One turn more of the passes over the edges of a round.
 use Rattle.std.specs.Prelude.{slice_range}
-use Rattle.std.proofs.Common.{◌≡◌, ℕ, zero, suc, ◌+◌, ◌-◌, ◌<◌, ◌≤◌, Bool, true, false, not, List, [], ◌∷◌, ◌++◌, length, get_or, take, drop, set, replicate, sym, refl, ap, ◌∙◌, append_assoc, arith, drop-set-lt}
+use Rattle.std.proofs.Common.{◌≡◌, ℕ, zero, suc, ◌+◌, ◌-◌, ◌<◌, ◌≤◌, Bool, true, false, not, List, [], ◌∷◌, ◌++◌, length, get_or, take, drop, set, sym, refl, ap, ◌∙◌, append_assoc, arith, drop-set-lt}
 use mathlib.Core.Bool.{beq}
-use Rattle.std.proofs.lemmas.List.{take_at, drop_at, take-append-drop, take_more_set, drop_more, drop_all, take_all, drop-take, map_more, get_or-map, append-nil, replicate_more}
+use Rattle.std.proofs.lemmas.List.{take_at, drop_at, take-append-drop, take_more_set, drop_more, drop_all, take_all, drop-take, map_more, get_or-map, append-nil}
 use Rattle.layouts.specs.Plans.{edge_cells, edges, row_at}
 use Rattle.weights.specs.Kinds.{Kind}
 use Rattle.dual.specs.Choice.{xor, odd}
@@ -10,7 +10,8 @@ use Rattle.dual.specs.Bound.{at, codeword}
 use Rattle.dual.proofs.Steps.{odd_push, codeword_more}
 use Rattle.model.specs.Moves.{moved_edge, moved_edges}
 use Rattle.model.specs.Words.{marked, bits}
-use Rattle.reader.specs.Tables.{Span}
+use Rattle.reader.specs.Tables.{Span, Rows}
+use Rattle.reader.specs.declared.table.Row.{Row}
 use Rattle.reader.proofs.Tables.{edge_cells_more}
 
 -- the bit of a cell
@@ -60,9 +61,6 @@ module _ {W : Type 0} (k : Kind W) (step : ℕ) where
       let d = append-nil ms in
       cc
 
-pub set_more : {A : Type 0} (xs : List A) (i : ℕ) (x : A) → i < length xs → take i xs ≡ replicate i x → take (i + 1) (set xs i x) ≡ replicate (i + 1) x
-set_more xs i x h e = take_more_set xs i x h ∙ ap (λ l. l ++ x ∷ []) e ∙ replicate_more i x
-
 -- ---- the cells of a row in the copy of a layout
 edge_cells_append : (xs ys : List (List ℕ)) → edge_cells (xs ++ ys) ≡ edge_cells xs ++ edge_cells ys
 edge_cells_append [] ys = refl
@@ -74,7 +72,7 @@ front_cells rows r =
     ∙ ap (take (edges (take r rows))) (edge_cells_append (take r rows) (drop r rows))
     ∙ take_at (edge_cells (take r rows)) (edge_cells (drop r rows)) (edges (take r rows)) refl
 
-pub row_part : (rows : List (List ℕ)) (cells : List ℕ) (r start end : ℕ) → r < length rows → cells ≡ edge_cells rows → Span rows r start end → slice_range cells start end ≡ row_at rows r
+row_part : (rows : List (List ℕ)) (cells : List ℕ) (r start end : ℕ) → r < length rows → cells ≡ edge_cells rows → Span rows r start end → slice_range cells start end ≡ row_at rows r
 row_part rows cells r start end h e s =
     let row : List ℕ = row_at rows r in
     let size : end - start ≡ length row = omega (arith, s.ends) in
@@ -83,3 +81,10 @@ row_part rows cells r start end h e s =
     let whole : start + length row ≡ end = omega (arith, s.ends) in
     ap (λ j. take j (drop start cells)) size ∙ sym (drop-take start (length row) cells) ∙ ap (λ j. drop start (take j cells)) whole
     ∙ ap (drop start) front ∙ drop_at (edge_cells (take r rows)) row start (sym s.begins)
+
+-- what a listed row takes of the cells are the cells of that row
+pub row_taken : (rows : List (List ℕ)) (list : List Row) (cells part : List ℕ) (r : ℕ) (d : Row) → Rows rows list → r < length list → cells ≡ edge_cells rows
+    → part ≡ slice_range cells (get_or list r d).start (get_or list r d).end → part ≡ row_at rows r
+row_taken rows list cells part r d a h e p =
+    let l : r < length rows = omega (arith, a.all) in
+    p ∙ row_part rows cells r (get_or list r d).start (get_or list r d).end l e (a.each r d l)

@@ -1,7 +1,7 @@
 -- One row more of a walk over all rows.
 use Rattle.std.proofs.Common.{◌≡◌, ℕ, zero, suc, ◌+◌, ◌-◌, ◌<◌, ◌≤◌, List, [], ◌∷◌, ℤ, length, take, drop, set, sym, ap, ◌∙◌, arith}
 use borrow.Rule.Slice.PartMut.{put_mid}
-use Rattle.std.proofs.lemmas.List.{take_all, take_at, drop_at, drop-drop, length-append, length-map, take-map, take_more_set, drop-map, map-append}
+use Rattle.std.proofs.lemmas.List.{take_at, drop_at, drop-drop, length-append, length-map, take-map, take_more_set, drop-map, map-append}
 use Rattle.std.proofs.lemmas.Slice.{take-put_mid}
 use Rattle.layouts.specs.Plans.{edges, edge_cells, row_at}
 use Rattle.weights.specs.Kinds.{Kind, meanings}
@@ -58,15 +58,6 @@ module _ {W : Type 0} (k : Kind W) where
       let push = map-append byte (choices (take r rows) (meanings k ws)) (chosen (take (length (row_at rows r)) (drop (edges (take r rows)) (meanings k ws)))) in
       cc
 
-  pub rows_marked : (rows : List (List ℕ)) (ws : List W) (marks : List ℕ) (r : ℕ) → length rows ≤ r → length marks ≡ edges rows
-      → take (edges (take r rows)) marks ≡ bytes (choices (take r rows) (meanings k ws)) → marks ≡ bytes (choices rows (meanings k ws))
-  rows_marked rows ws marks r h lm inv =
-      let all = take_all r rows h in
-      let n : edges (take r rows) ≡ edges rows = ap edges all in
-      let whole = take_all (edges (take r rows)) marks (omega arith) in
-      let same = ap (λ rs. bytes (choices rs (meanings k ws))) all in
-      cc
-
   -- the least sum of a row is that of the marked part of its multipliers
   pub row_least : (rows : List (List ℕ)) (ws : List W) (marks part : List ℕ) (own : List W) (r start end : ℕ) (sum : W) → r < length rows → Span rows r start end → length ws ≡ edges rows
       → marks ≡ bytes (choices rows (meanings k ws)) → part ≡ take (end - start) (drop start marks) → own ≡ take (end - start) (drop start ws)
@@ -91,13 +82,6 @@ module _ {W : Type 0} (k : Kind W) where
       let push = map-append k.meaning (take r sums) (sum ∷ []) in
       let part = ap least (part_means rows ws r start end s) in
       let more = row_leasts_more rows (meanings k ws) r h in
-      cc
-
-  pub rows_summed : (rows : List (List ℕ)) (ws sums : List W) (r : ℕ) → length rows ≤ r → length sums ≡ length rows
-      → meanings k (take r sums) ≡ row_leasts (take r rows) (meanings k ws) → meanings k sums ≡ row_leasts rows (meanings k ws)
-  rows_summed rows ws sums r h l inv =
-      let all = ap (λ rs. row_leasts rs (meanings k ws)) (take_all r rows h) in
-      let whole = ap (meanings k) (take_all r sums (omega arith)) in
       cc
 
   -- the sizes of a part are not more than those of all

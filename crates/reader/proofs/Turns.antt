@@ -1,7 +1,7 @@
 -- One turn more of each pass over a list of weights.
 use Rattle.std.proofs.Common.{◌≡◌, ℕ, zero, suc, ◌+◌, ◌^◌, ◌<◌, ◌≤◌, Bool, true, false, not, eqb, List, [], ◌∷◌, length, get_or, take, set, pos, ◌+ℤ◌, Some, sym, refl, ap, ◌∙◌, arith}
 use Rattle.std.specs.Int.{from_bool}
-use Rattle.std.proofs.lemmas.List.{take_all, take_more_set, length-map, map-append, map-set, get_or-map}
+use Rattle.std.proofs.lemmas.List.{take_more_set, length-map, map-append, map-set, get_or-map}
 use Rattle.std.proofs.lemmas.Int.{ints}
 use Rattle.std.proofs.lemmas.Bool.{cond-true}
 use Rattle.weights.specs.Kinds.{Kind, Exact, meanings}
@@ -91,13 +91,3 @@ module _ {W : Type 0} (k : Kind W) where
       let s = ap k.size same in
       let z : k.meaning sum ≡ k.meaning sum +ℤ pos 0 = omega (arith, ints) in
       sum_step marks ws i w sum new hm hw e (v ∙ z ∙ ap (λ c. k.meaning sum +ℤ taken c (k.meaning w)) (sym b)) (omega arith) inv size
-
-  pub sum_done : (marks : List ℕ) (ws : List W) (i : ℕ) (sum : W) → length marks ≡ length ws → length ws ≤ i
-      → k.meaning sum ≡ pick (take i (bits marks)) (take i (meanings k ws)) → k.size sum ≤ total_size k (take i ws)
-      → (k.meaning sum ≡ pick (bits marks) (meanings k ws)) × (k.size sum ≤ total_size k ws)
-  sum_done marks ws i sum l h inv size =
-      let lb : length (bits marks) ≤ i = rw (length-map marks marked) (omega arith) in
-      let lw : length (meanings k ws) ≤ i = rw (length-map ws k.meaning) h in
-      let b = take_all i (bits marks) lb in
-      let m = take_all i (meanings k ws) lw in
-      (cc, let n = total_within k ws i in omega arith)
