@@ -1,15 +1,9 @@
 use Rattle.std.proofs.Common.{sym, ap, ◌∙◌, subst}
 use Rattle.std.specs.Option.{option_map}
 use Rattle.reader.specs.Spots.{spot, OfSign}
-use Rattle.reader.proofs.Rows.{nearest_takes, nearest_passes, nearest_done, of_sign, of_other_sign}
+use Rattle.reader.proofs.Rows.{nearest_takes, nearest_passes, of_sign, of_other_sign}
 use Rattle.reader.proofs.choice.nearest.Goals as goal
 use Rattle.reader.proofs.choice.nearest.Goals.{then-is_negative-below, else-is_negative-below}
-
-pub nearer_of-best-requires : goal.nearer_of-best-requires
-nearer_of-best-requires g c = record {
-  sign = of_sign _ _ _ c.is_negative.ensures c.if-is_negative-below.true;
-  best = c.loop-i.invariant.1;
-}
 
 pub loop-i-preserved : goal.loop-i-preserved
 loop-i-preserved g c =
@@ -28,9 +22,3 @@ loop-i-preserved g c =
           c.index-multipliers-i.is (of_other_sign _ _ _ c.is_negative.ensures w.if-is_negative-below.false) c.loop-i.invariant.0 in
           (cc, subst (OfSign k c.args.below) (sym w.best-is) c.loop-i.invariant.1)
     ]
-
-pub returns : goal.returns
-returns g c = record {
-  value = nearest_done g.W.Weight.kind c.args.below c.args.multipliers.now c.loop-i.i c.loop-i.best c.loop-i-test.false c.loop-i.invariant.0;
-  sign = c.loop-i.invariant.1;
-}

@@ -1,5 +1,4 @@
-use Rattle.std.proofs.Common.{◌<◌, length, ◌∙◌, arith, rules}
-use Rattle.std.proofs.lemmas.List.{take_all, length-map}
+use Rattle.std.proofs.Common.{◌<◌, length, ◌∙◌, arith}
 use Rattle.reader.proofs.Rows.{odd_step}
 use Rattle.reader.proofs.Turns.{byte_is, mark_step}
 use Rattle.reader.proofs.passes.mark_negatives.Goals as goal
@@ -13,6 +12,3 @@ loop-i-preserved g c =
       odd_step g.W.Weight.kind c.args.list.now c.loop-i.i w c.loop-i.uneven c.is_negative-negative.result c.loop-i-test.true c.index-list-i.is
           c.is_negative-negative.ensures c.loop-i.invariant.1,
     )
-
-pub returns : goal.returns
-returns g c = search (rules, take_all, length-map)

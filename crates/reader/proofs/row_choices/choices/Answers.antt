@@ -3,12 +3,6 @@ use Rattle.layouts.specs.Plans.{edges}
 use Rattle.reader.proofs.Fits.{choices_fit}
 use Rattle.reader.proofs.row_choices.choices.Goals as goal
 
-pub mark_choices-requires : goal.mark_choices-requires
-mark_choices-requires g c =
-    let fit = choices_fit g.W.Weight.kind (g.L.Layout.plan c.args.layout.now) c.args.multipliers.now _ _ (sym c.in_ok-check_choices.ensures) in
-    let e = ap (λ l. edges (g.L.Layout.plan l).rows) (sym c.of-table.ensures) in
-    record { multipliers = fit.0.0 ∙ e; marks = fit.0.1 ∙ e }
-
 pub sum_rows-requires : goal.sum_rows-requires
 sum_rows-requires g c =
     let fit = choices_fit g.W.Weight.kind (g.L.Layout.plan c.args.layout.now) c.args.multipliers.now _ _ (sym c.in_ok-check_choices.ensures) in
