@@ -1,22 +1,18 @@
-use Rattle.std.proofs.Common.{◌≡◌, ℕ, ◌+◌, ◌<◌, ◌≤◌, ◌&&◌, eqb, ltb, List, length, get_or, drop, rules}
-use Rattle.std.proofs.lemmas.List.{at_drop_more, at_drop_all}
-use Rattle.layouts.specs.Lists.{rise_above, last_end}
+use Rattle.std.proofs.Common.{◌≡◌, true, ap, ◌∙◌, refl}
+use Rattle.std.specs.Prelude.{nat_eq}
+use Rattle.std.specs.Option.{unwrap_or}
+use Rattle.layouts.specs.Lists.{rises}
+use Rattle.layouts.proofs.Rising.{ends_by_parts, not_first}
 use Rattle.layouts.proofs.listed.ends_rise.Goals as goal
+use Rattle.layouts.proofs.listed.ends_rise.Goals.{then-ne, else-ne}
 
-step : (start : ℕ) (ends : List ℕ) (entries i : ℕ) → i < length ends
-    → (rise_above start (drop i ends) && eqb (last_end start (drop i ends)) entries)
-    ≡ ((ltb start (get_or ends i 0) && rise_above (get_or ends i 0) (drop (i + 1) ends)) && eqb (last_end (get_or ends i 0) (drop (i + 1) ends)) entries)
-step start ends entries i h = at_drop_more (λ left. rise_above start left && eqb (last_end start left) entries) ends i 0 h
-
-done : (start : ℕ) (ends : List ℕ) (entries i : ℕ) → length ends ≤ i
-    → (rise_above start (drop i ends) && eqb (last_end start (drop i ends)) entries) ≡ eqb start entries
-done start ends entries i h = at_drop_all (λ left. rise_above start left && eqb (last_end start left) entries) ends i h
-
-pub returns-then-end-last : goal.returns-then-end-last
-returns-then-end-last c = search (rules, step)
-
-pub loop-end-preserved : goal.loop-end-preserved
-loop-end-preserved c = search (rules, step)
-
-pub returns : goal.returns
-returns c = search (rules, done)
+pub returns-then-rises : goal.returns-then-rises
+returns-then-rises c =
+    let last = c.from.ensures ∙ c.unwrap_or-last.ensures ∙ ap (λ o. unwrap_or o 0) (c.copied.ensures ∙ c.last.ensures.value) in
+    elim c.if-ne.branch [
+      | then-ne w ↦
+          let each : rises c.args.ends.now ≡ true = cc in
+          let first = not_first c.first.result _ refl (w.if-ne.ensures) in
+          ap (λ n. nat_eq n c.args.entries) last ∙ ends_by_parts c.args.ends.now c.args.entries (λ e. first (c.first.ensures.value ∙ e)) each
+      | else-ne w ↦ cc
+    ]
