@@ -52,7 +52,7 @@ fn rows_rise(cells: u16, ends: &[u16], entries: &[u16]) -> bool
     requires { ends_rise ends.now (length entries.now) ≡ true }
     ensures { result ≡ rows_rise cells (rows_of ends.now entries.now) }
 {
-    // A running start: zipping 0 and the ends with the ends was tried, and its proof stays open.
+    // A running start: a zip of the ends needs 0 put before them and a span for each row, and reads no better.
     let mut start = 0;
     for end in ends {
         let end = usize::from(*end);
