@@ -24,6 +24,11 @@ abbrev pub rise_above : ℕ → List ℕ → Bool
 rise_above start [] = true
 rise_above start (end ∷ ends) = nat_lt start end && rise_above end ends
 
+-- each number is above the one before it
+abbrev pub rises : List ℕ → Bool
+rises [] = true
+rises (number ∷ numbers) = rise_above number numbers
+
 -- the last of the ends, `start` where there is none
 abbrev pub last_end : ℕ → List ℕ → ℕ
 last_end start [] = start

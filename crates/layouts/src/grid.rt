@@ -21,7 +21,7 @@ impl Grid {
         ensures why { number_of result ≡ grid_refusal lines columns }
         ensures sides { IfOk result (λ g. (g.lines ≡ lines) × (g.columns ≡ columns)) }
     {
-        if lines < 2 || lines > 11 || columns < 2 || columns > 11 {
+        if !(2..=11).contains(&lines) || !(2..=11).contains(&columns) {
             return Err(Refusal::GridSide);
         }
         Ok(Grid { lines, columns })
@@ -46,7 +46,7 @@ impl Layout for Grid {
     fn row_len(&self, row: RowNo) -> Option<u16> {
         if row.0 < self.lines {
             Some(self.columns)
-        } else if row.0 < self.lines + self.columns {
+        } else if row.0 < self.rows() {
             Some(self.lines)
         } else {
             None

@@ -1,7 +1,8 @@
 // A layout over two lists of the caller.
-ghost use Rattle.std.specs.Prelude.{◌≡◌, ◌<◌, true, ◌∷◌, length, slice_index};
+ghost use Rattle.std.specs.Prelude.{◌≡◌, ◌<◌, true, ◌∷◌, length, slice_index, nat_lt};
+ghost use Rattle.std.specs.List.{list_all};
 ghost use Rattle.std.specs.Option.{option_map};
-ghost use Rattle.layouts.specs.Lists.{row_in, rows_of, ends_rise, row_rises, rows_rise, listed_refusal, listed_cells, listed_rows};
+ghost use Rattle.layouts.specs.Lists.{row_in, rows_of, rises, ends_rise, row_rises, rows_rise, listed_refusal, listed_cells, listed_rows};
 ghost use Rattle.layouts.specs.ListPlan.{listed_plan};
 ghost use Rattle.refusals.specs.Numbers.{number_of};
 
@@ -17,33 +18,33 @@ pub struct Listed<'a> {
     ghost ok: { listed_refusal cells ends.now entries.now ≡ 0 },
 }
 
+// Each number is above the one before it.
+fn rises(numbers: &[u16]) -> bool
+    ensures { result ≡ rises numbers.now }
+{
+    numbers.is_sorted_by(|a, b| a < b)
+}
+
+// Each number is below the limit.
+fn all_below(numbers: &[u16], limit: u16) -> bool
+    ensures { result ≡ list_all (λ number. nat_lt number limit) numbers.now }
+{
+    numbers.iter().all(|&number| number < limit)
+}
+
 // The ends rise strictly from above 0 to the number of entries.
 fn ends_rise(ends: &[u16], entries: usize) -> bool
     ensures { result ≡ ends_rise ends.now entries }
 {
-    let mut last = 0;
-    for end in ends {
-        let end = *end as usize;
-        if end <= last {
-            return false;
-        }
-        last = end;
-    }
-    last == entries
+    let last = ends.last().copied().unwrap_or(0);
+    ends.first() != Some(&0) && rises(ends) && usize::from(last) == entries
 }
 
 // Each cell is below the count and above the one before it.
 fn row_rises(cells: u16, row: &[u16]) -> bool
     ensures { result ≡ row_rises cells row.now }
 {
-    let mut low = 0;
-    for cell in row {
-        if *cell < low || *cell >= cells {
-            return false;
-        }
-        low = *cell + 1;
-    }
-    true
+    rises(row) && all_below(row, cells)
 }
 
 // Each row rises. The rows lie one after another, so a row starts where the one before it ends.
@@ -51,9 +52,10 @@ fn rows_rise(cells: u16, ends: &[u16], entries: &[u16]) -> bool
     requires { ends_rise ends.now (length entries.now) ≡ true }
     ensures { result ≡ rows_rise cells (rows_of ends.now entries.now) }
 {
+    // A running start: a zip of the ends needs 0 put before them and a span for each row, and reads no better.
     let mut start = 0;
     for end in ends {
-        let end = *end as usize;
+        let end = usize::from(*end);
         if !row_rises(cells, &entries[start..end]) {
             return false;
         }
@@ -67,7 +69,7 @@ fn row_start(ends: &[u16], row: usize) -> u16
     requires { row < length ends.now }
     ensures { result ≡ slice_index (0 ∷ ends.now) row }
 {
-    if row == 0 { 0 } else { ends[row - 1] }
+    ends[..row].last().copied().unwrap_or(0)
 }
 
 impl<'a> Listed<'a> {
@@ -75,7 +77,7 @@ impl<'a> Listed<'a> {
     pub fn check(cells: u16, ends: &[u16], entries: &[u16]) -> Result<(), Refusal>
         ensures { number_of result ≡ listed_refusal cells ends.now entries.now }
     {
-        if cells < 1 || cells > 128 || ends.len() > 96 || entries.len() > 1024 {
+        if !(1..=128).contains(&cells) || ends.len() > 96 || entries.len() > 1024 {
             return Err(Refusal::LayoutLimits);
         }
         if !ends_rise(ends, entries.len()) {
@@ -110,13 +112,10 @@ impl<'a> Listed<'a> {
     fn row(&self, row: RowNo) -> Option<&[u16]>
         ensures { option_map (λ s. s.now) result ≡ row_in (rows_of self.now.ends.now self.now.entries.now) row.0 }
     {
-        let row = row.0 as usize;
-        if row >= self.ends.len() {
-            return None;
-        }
-        let start = row_start(self.ends, row) as usize;
-        let end = self.ends[row] as usize;
-        Some(&self.entries[start..end])
+        let row = usize::from(row.0);
+        let end = *self.ends.get(row)?;
+        let start = row_start(self.ends, row);
+        Some(&self.entries[usize::from(start)..usize::from(end)])
     }
 }
 
@@ -136,15 +135,11 @@ impl Layout for Listed<'_> {
     }
 
     fn row_len(&self, row: RowNo) -> Option<u16> {
-        let row = self.row(row)?;
-        Some(row.len() as u16)
+        Some(self.row(row)?.len() as u16)
     }
 
     fn cell(&self, row: RowNo, place: u16) -> Option<CellNo> {
-        let row = self.row(row)?;
-        if place as usize >= row.len() {
-            return None;
-        }
-        Some(CellNo(row[place as usize]))
+        let cell = self.row(row)?.get(usize::from(place))?;
+        Some(CellNo(*cell))
     }
 }

@@ -23,7 +23,7 @@ impl GreyCost for Plain {
         ensures cost { result ≡ plain_cost grey }
         ensures part { result.value ≡ grey_cost grey }
     {
-        Plain::new(i64::from(part::grey_cost(grey)))
+        Plain::new(part::grey_cost(grey))
     }
 }
 
@@ -35,7 +35,7 @@ impl GreyCost for Paired {
         ensures grey { result.grey ≡ grey_cost grey }
         ensures dark { result.dark ≡ pos 1 }
     {
-        Paired::new(i64::from(part::grey_cost(grey)), 1)
+        Paired::new(part::grey_cost(grey), 1)
     }
 }
 
@@ -47,6 +47,7 @@ pub fn convert<W: GreyCost>(greys: &[u8], costs: &mut [W]) -> Result<(), Refusal
     if greys.len() != costs.len() {
         return Err(Refusal::GreyLength);
     }
+    // By index, since after a zipped `iter_mut` a proof knows no more than the length of `costs`.
     for (i, grey) in greys.iter().enumerate() {
         costs[i] = W::of_grey(*grey);
     }

@@ -1,8 +1,10 @@
 // A paired weight: a grey part, and a count of dark cells that decides between equal greys.
-ghost use Rattle.std.specs.Prelude.{◌≡◌, ◌^◌, ◌≤◌, unsigned_abs};
+ghost use Rattle.std.specs.Prelude.{◌≡◌, ◌^◌, ◌≤◌, unsigned_abs, Some, ◌++◌, codes};
+ghost use Rattle.std.specs.Fmt.{signed_decimal};
 ghost use Rattle.weights.specs.Parts.{cut, joined};
 
 use super::part;
+use std::fmt;
 
 mod weight;
 
@@ -40,5 +42,14 @@ impl Paired {
         ensures { result ≡ joined self.grey self.dark }
     {
         i64::from(self.grey) * (1 << 32) + i64::from(self.dark)
+    }
+}
+
+// As -5,1.
+impl fmt::Display for Paired {
+    ghost output = { λ w. Some (signed_decimal w.grey ++ codes "," ++ signed_decimal w.dark) };
+
+    fn fmt<W: fmt::Write>(&self, f: &mut fmt::Formatter<W>) -> fmt::Result {
+        write!(f, "{},{}", self.grey, self.dark)
     }
 }

@@ -1,6 +1,6 @@
 // One signed part of a weight, cut where it would leave its range.
-ghost use Rattle.std.specs.Prelude.{◌≡◌, ◌^◌, ◌≤◌, ◌+ℤ◌, ◌-ℤ◌, unsigned_abs};
-ghost use Rattle.weights.specs.Parts.{cut, stepped, grey_cost, Kept};
+ghost use Rattle.std.specs.Prelude.{◌≡◌, ◌^◌, ◌≤◌, unsigned_abs};
+ghost use Rattle.weights.specs.Parts.{cut, stepped, grey_cost};
 
 // No part of a weight is farther from 0.
 pub(crate) const PART_LIMIT: u32 = 1 << 30;
@@ -17,20 +17,6 @@ pub(crate) fn cut(value: i64, limit: u32) -> i32
     value.clamp(-most, most) as i32
 }
 
-pub(crate) fn sum(a: i32, b: i32) -> i32
-    ensures value { result ≡ cut (2 ^ 30) (a +ℤ b) }
-    ensures kept { Kept a b result (a +ℤ b) }
-{
-    cut(i64::from(a) + i64::from(b), PART_LIMIT)
-}
-
-pub(crate) fn difference(a: i32, b: i32) -> i32
-    ensures value { result ≡ cut (2 ^ 30) (a -ℤ b) }
-    ensures kept { Kept a b result (a -ℤ b) }
-{
-    cut(i64::from(a) - i64::from(b), PART_LIMIT)
-}
-
 pub(crate) fn moved(a: i32, step: u32, up: bool) -> i32
     ensures value { result ≡ cut (2 ^ 18) (stepped a step up) }
     ensures bound { unsigned_abs result ≤ 2 ^ 18 }
@@ -44,8 +30,8 @@ pub(crate) fn moved(a: i32, step: u32, up: bool) -> i32
     cut(to, MOVED_LIMIT)
 }
 
-pub(crate) fn grey_cost(grey: u8) -> i32
+pub(crate) fn grey_cost(grey: u8) -> i64
     ensures { result ≡ grey_cost grey }
 {
-    256 * (i32::from(grey) - 128)
+    256 * (i64::from(grey) - 128)
 }

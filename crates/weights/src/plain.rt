@@ -1,8 +1,10 @@
 // A plain weight: one signed number, which is its meaning.
-ghost use Rattle.std.specs.Prelude.{◌≡◌, ◌^◌, ◌≤◌, unsigned_abs};
+ghost use Rattle.std.specs.Prelude.{◌≡◌, ◌^◌, ◌≤◌, unsigned_abs, Some};
+ghost use Rattle.std.specs.Fmt.{signed_decimal};
 ghost use Rattle.weights.specs.Parts.{cut};
 
 use super::part;
+use std::fmt;
 
 mod weight;
 
@@ -25,5 +27,14 @@ impl Plain {
         ensures { result ≡ self.value }
     {
         self.value
+    }
+}
+
+// As -5.
+impl fmt::Display for Plain {
+    ghost output = { λ w. Some (signed_decimal w.value) };
+
+    fn fmt<W: fmt::Write>(&self, f: &mut fmt::Formatter<W>) -> fmt::Result {
+        write!(f, "{}", self.value)
     }
 }

@@ -14,10 +14,5 @@ pub const MULTIPLIER_SIZE: u32 = 1 << 18;
 pub fn any_beyond<W: Weight>(list: &[W], limit: u32) -> bool
     ensures { result ≡ beyond W.kind limit list.now }
 {
-    for w in list {
-        if w.size() > limit {
-            return true;
-        }
-    }
-    false
+    list.iter().any(|w| w.size() > limit)
 }

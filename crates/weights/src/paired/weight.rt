@@ -26,9 +26,9 @@ impl Weight for Paired {
         ensures grey { result.grey ≡ cut (2 ^ 30) (self.grey +ℤ other.grey) }
         ensures dark { result.dark ≡ cut (2 ^ 30) (self.dark +ℤ other.dark) }
     {
-        let grey = part::sum(self.grey, other.grey);
-        let dark = part::sum(self.dark, other.dark);
-        Paired { grey, dark }
+        let grey = i64::from(self.grey) + i64::from(other.grey);
+        let dark = i64::from(self.dark) + i64::from(other.dark);
+        Paired::new(grey, dark)
     }
 
     fn minus(self, other: Paired) -> Paired
@@ -36,9 +36,9 @@ impl Weight for Paired {
         ensures grey { result.grey ≡ cut (2 ^ 30) (self.grey -ℤ other.grey) }
         ensures dark { result.dark ≡ cut (2 ^ 30) (self.dark -ℤ other.dark) }
     {
-        let grey = part::difference(self.grey, other.grey);
-        let dark = part::difference(self.dark, other.dark);
-        Paired { grey, dark }
+        let grey = i64::from(self.grey) - i64::from(other.grey);
+        let dark = i64::from(self.dark) - i64::from(other.dark);
+        Paired::new(grey, dark)
     }
 
     fn below(self, other: Paired) -> bool {

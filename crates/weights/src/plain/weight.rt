@@ -25,16 +25,14 @@ impl Weight for Plain {
         ensures sum { Exact plain_kind self other result (plain_kind.meaning self +ℤ plain_kind.meaning other) }
         ensures part { result.value ≡ cut (2 ^ 30) (self.value +ℤ other.value) }
     {
-        let value = part::sum(self.value, other.value);
-        Plain { value }
+        Plain::new(i64::from(self.value) + i64::from(other.value))
     }
 
     fn minus(self, other: Plain) -> Plain
         ensures difference { Exact plain_kind self other result (plain_kind.meaning self -ℤ plain_kind.meaning other) }
         ensures part { result.value ≡ cut (2 ^ 30) (self.value -ℤ other.value) }
     {
-        let value = part::difference(self.value, other.value);
-        Plain { value }
+        Plain::new(i64::from(self.value) - i64::from(other.value))
     }
 
     fn below(self, other: Plain) -> bool {

@@ -1,22 +1,21 @@
-use Rattle.std.proofs.Common.{◌≡◌, ℕ, ◌+◌, ◌<◌, ◌≤◌, ◌&&◌, eqb, ltb, List, length, get_or, drop, rules}
-use Rattle.std.proofs.lemmas.List.{at_drop_more, at_drop_all}
-use Rattle.layouts.specs.Lists.{rise_above, last_end}
+use Rattle.std.proofs.Common.{◌≡◌, ◌-◌, true, Some, length, ap, ◌∙◌, rules}
+use Rattle.std.specs.Option.{unwrap_or}
+use Rattle.std.specs.List.{slice_get}
+use Rattle.layouts.specs.Lists.{rises}
+use Rattle.layouts.proofs.Rising.{ends_by_parts, not_first}
 use Rattle.layouts.proofs.listed.ends_rise.Goals as goal
+use Rattle.layouts.proofs.listed.ends_rise.Goals.{then-ne, else-ne}
 
-step : (start : ℕ) (ends : List ℕ) (entries i : ℕ) → i < length ends
-    → (rise_above start (drop i ends) && eqb (last_end start (drop i ends)) entries)
-    ≡ ((ltb start (get_or ends i 0) && rise_above (get_or ends i 0) (drop (i + 1) ends)) && eqb (last_end (get_or ends i 0) (drop (i + 1) ends)) entries)
-step start ends entries i h = at_drop_more (λ left. rise_above start left && eqb (last_end start left) entries) ends i 0 h
-
-done : (start : ℕ) (ends : List ℕ) (entries i : ℕ) → length ends ≤ i
-    → (rise_above start (drop i ends) && eqb (last_end start (drop i ends)) entries) ≡ eqb start entries
-done start ends entries i h = at_drop_all (λ left. rise_above start left && eqb (last_end start left) entries) ends i h
-
-pub returns-then-end-last : goal.returns-then-end-last
-returns-then-end-last c = search (rules, step)
-
-pub loop-end-preserved : goal.loop-end-preserved
-loop-end-preserved c = search (rules, step)
-
-pub returns : goal.returns
-returns c = search (rules, done)
+pub returns-then-rises : goal.returns-then-rises
+returns-then-rises c =
+    let ends = c.args.ends.now in
+    let last : c.from.result ≡ unwrap_or (slice_get ends (length ends - 1)) 0 =
+    c.from.ensures ∙ c.unwrap_or-last.ensures ∙ ap (λ o. unwrap_or o 0) (c.copied.ensures ∙ c.last.ensures.value) in
+    elim c.if-ne.branch [
+      | then-ne w ↦
+          let each : rises ends ≡ true = cc in
+          let above : slice_get ends 0 ≡ Some 0 → ⊥ = λ e. not_first c.first.result _ (search rules) w.if-ne.ensures (c.first.ensures.value ∙ e) in
+          let parts = ends_by_parts ends c.args.entries above each in
+          cc
+      | else-ne w ↦ cc
+    ]

@@ -7,12 +7,12 @@ returns-then-row-self c =
     let g = c.args.self.now in let n = length_grid g.lines g.columns in
     search (rules, length_line)
 
-pub returns-then-row-self-2 : goal.returns-then-row-self-2
-returns-then-row-self-2 c =
+pub returns-then-row-rows : goal.returns-then-row-rows
+returns-then-row-rows c =
     let g = c.args.self.now in let n = length_grid g.lines g.columns in
     search (rules, length_column)
 
-pub returns-else-row-self-2 : goal.returns-else-row-self-2
-returns-else-row-self-2 c =
+pub returns-else-row-rows : goal.returns-else-row-rows
+returns-else-row-rows c =
     let g = c.args.self.now in let n = length_grid g.lines g.columns in
     search rules

@@ -2,8 +2,8 @@ use Rattle.std.proofs.Common.{rules}
 use Rattle.layouts.specs.ListPlan.{length_rows, row_is, row_span}
 use Rattle.layouts.proofs.listed.Listed.row.Goals as goal
 
-pub returns-then-row-self : goal.returns-then-row-self
-returns-then-row-self c = search (rules, length_rows)
+pub returns-in_err-end : goal.returns-in_err-end
+returns-in_err-end c = search (rules, length_rows)
 
 pub returns : goal.returns
 returns c = search (rules, length_rows, row_is)

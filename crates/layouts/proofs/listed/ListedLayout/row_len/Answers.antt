@@ -6,5 +6,5 @@ use Rattle.layouts.proofs.listed.ListedLayout.row_len.Goals as goal
 pub overflow_cast-result : goal.overflow_cast-result
 overflow_cast-result c =
     let s = c.args.self.now in
-    let short = found_short (listed_plan s.cells s.ends.now s.entries.now s.ok) c.args.row.0 c.in_ok-row.row.now c.in_ok-row.ensures in
+    let short = found_short (listed_plan s.cells s.ends.now s.entries.now s.ok) c.args.row.0 c.in_ok-row.field-0.now c.in_ok-row.ensures in
     search rules

@@ -1,23 +1,16 @@
 -- Part by part, and then by the pair's meaning.
-use Rattle.std.proofs.Common.{◌+ℤ◌, w32, SFits, rules}
-use Rattle.std.proofs.lemmas.Int.{to_z-of_z}
-use Rattle.weights.proofs.Cuts.{pair_exact, joined_sum}
+use Rattle.std.proofs.Common.{◌+ℤ◌, rules}
+use Rattle.weights.proofs.Cuts.{paired_exact, abs_sum, joined_sum}
 use Rattle.weights.proofs.paired.weight.PairedWeight.plus.Goals as goal
 
 pub returns : goal.returns
 returns c =
     let a = c.args.self in
     let b = c.args.other in
-    let ag : SFits w32 a.grey = search rules in
-    let ad : SFits w32 a.dark = search rules in
-    let bg : SFits w32 b.grey = search rules in
-    let bd : SFits w32 b.dark = search rules in
-    let rg : SFits w32 c.sum-grey.result = search rules in
-    let rd : SFits w32 c.sum-dark.result = search rules in
-    let g = simp to_z-of_z at c.sum-grey.ensures.kept in
-    let d = simp to_z-of_z at c.sum-dark.ensures.kept in
+    let grey = abs_sum a.grey b.grey in
+    let dark = abs_sum a.dark b.dark in
     record {
-      sum = pair_exact a b _ (a.grey +ℤ b.grey) (a.dark +ℤ b.dark) _ (simp to_z-of_z g) (simp to_z-of_z d) (joined_sum a.grey a.dark b.grey b.dark);
+      sum = paired_exact a b _ (a.grey +ℤ b.grey) (a.dark +ℤ b.dark) _ grey dark (search rules) (search rules) (joined_sum a.grey a.dark b.grey b.dark);
       grey = search rules;
       dark = search rules;
     }
