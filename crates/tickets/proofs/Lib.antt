@@ -1,7 +1,7 @@
 pub mod Uncut
 pub mod Packing
-pub mod Writing
 pub mod Splices
+pub mod Writing
 pub mod Forms
 pub mod Written
 pub mod Records
