@@ -4,6 +4,7 @@ pub mod Splices
 pub mod Writing
 pub mod Forms
 pub mod Written
+pub mod Chunked
 pub mod Records
 pub mod Parted
 pub mod Whole

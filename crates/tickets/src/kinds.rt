@@ -1,5 +1,5 @@
 // Our own kinds on tickets: each part is a signed number of four bytes, two's complement, high byte first.
-ghost use Rattle.std.specs.Prelude.{◌≡◌, ◌+◌, ◌≤◌, ◌++◌, length, take, drop, replicate};
+ghost use Rattle.std.specs.Prelude.{◌≡◌, ◌==◌, ◌++◌, cond, length, take, replicate, Some, None};
 ghost use Rattle.tickets.specs.Parts.{part_of};
 ghost use Rattle.tickets.specs.Kinds.{plain_codec, plain_bytes, paired_codec, paired_bytes};
 ghost use Rattle.std.proofs.Common.{rules};
@@ -7,12 +7,12 @@ ghost use Rattle.std.proofs.Common.{rules};
 use crate::TicketWeight;
 use weights::{Paired, Plain};
 
-// The part that the four bytes from a place on write.
-fn part_of(bytes: &[u8], at: usize) -> i32
-    requires { at + 4 ≤ length bytes.now }
-    ensures { result ≡ part_of (drop at bytes.now) }
+// The part that these bytes write, if they are four.
+fn part_of(bytes: &[u8]) -> Option<i32>
+    ensures { result ≡ cond (length bytes.now == 4) (Some (part_of bytes.now)) None }
 {
-    i32::from_be_bytes([bytes[at], bytes[at + 1], bytes[at + 2], bytes[at + 3]])
+    let bytes: [u8; 4] = bytes.try_into().ok()?;
+    Some(i32::from_be_bytes(bytes))
 }
 
 impl TicketWeight for Plain {
@@ -39,15 +39,9 @@ impl TicketWeight for Plain {
 
     // A number beyond the limit would be cut, and is the number of no weight.
     fn from_bytes(bytes: &[u8]) -> Option<Plain> {
-        if bytes.len() != 4 {
-            return None;
-        }
-        let number = part_of(bytes, 0);
+        let number = part_of(bytes)?;
         let weight = Plain::new(i64::from(number));
-        if weight.value() != number {
-            return None;
-        }
-        Some(weight)
+        (weight.value() == number).then_some(weight)
     }
 }
 
@@ -75,15 +69,10 @@ impl TicketWeight for Paired {
     }
 
     fn from_bytes(bytes: &[u8]) -> Option<Paired> {
-        if bytes.len() != 8 {
-            return None;
-        }
-        let grey = part_of(bytes, 0);
-        let dark = part_of(bytes, 4);
+        let (front, back) = bytes.split_at_checked(4)?;
+        let grey = part_of(front)?;
+        let dark = part_of(back)?;
         let weight = Paired::new(i64::from(grey), i64::from(dark));
-        if weight.grey() != grey || weight.dark() != dark {
-            return None;
-        }
-        Some(weight)
+        (weight.grey() == grey && weight.dark() == dark).then_some(weight)
     }
 }
