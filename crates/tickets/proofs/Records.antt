@@ -44,14 +44,6 @@ module _ {W : Type 0} (k : Kind W) (c : Codec W) where
       ap (λ o. followed o (multipliers_in k c n (drop (2 + c.width) left))) e ∙ ap (λ l. followed (Some m) (multipliers_in k c n l)) (sym d)
       ∙ ap (λ i. followed (Some m) (multipliers_in k c i behind)) (sym one)
 
-  none_more : (n : ℕ) (left : List ℕ) → 0 < n → multiplier_at k c left ≡ None → multipliers_in k c n left ≡ None
-  none_more zero left h e = absurd (omega arith)
-  none_more (suc n) left h e = ap (λ o. followed o (multipliers_in k c n (drop (2 + c.width) left))) e
-
-  is_some_followed : (m : W) (o : Option (List W)) → is_some (followed (Some m) o) ≡ is_some o
-  is_some_followed m (Some us) = refl
-  is_some_followed m None = refl
-
   is_some_both : (o : Option W) (p : Option (List W)) → is_some (followed o p) ≡ (is_some o && is_some p)
   is_some_both (Some w) (Some us) = refl
   is_some_both (Some w) None = refl

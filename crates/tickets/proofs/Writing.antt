@@ -8,9 +8,6 @@ use Rattle.tickets.specs.Packs.{splice}
 use Rattle.tickets.specs.Writers.{Puts}
 use Rattle.tickets.proofs.Splices.{splice_none, splice_join, joined_length, more_records}
 
-pub puts_none : (a : TicketWriter) → Puts a a []
-puts_none a = record { same_output = refl; room = refl; bytes = sym (splice_none a.out.now a.at); place = omega arith }
-
 -- two pieces behind each other are one
 pub puts_join : (a b c : TicketWriter) (xs ys : List ℕ) → Puts a b xs → Puts b c ys → a.at + length xs ≤ length a.out.now → Puts a c (xs ++ ys)
 puts_join a b c xs ys p q h = record {

@@ -1,4 +1,4 @@
-use Rattle.std.proofs.Common.{arith, rules}
+use Rattle.std.proofs.Common.{rules}
 use Rattle.tickets.specs.Tickets.{counts}
 use Rattle.tickets.proofs.Forms.{ticket_length}
 use Rattle.tickets.proofs.writer.check.Goals as goal

@@ -5,7 +5,7 @@ use Rattle.tickets.specs.Tickets.{multiplier_bytes}
 use Rattle.tickets.specs.Writers.{Puts}
 use Rattle.tickets.proofs.Forms.{bytes_length}
 use Rattle.tickets.proofs.Splices.{record_room}
-use Rattle.tickets.proofs.Writing.{puts_none, records_place, records_step}
+use Rattle.tickets.proofs.Writing.{records_place, records_step}
 use Rattle.tickets.proofs.writer.TicketWriter.put_multipliers.Goals as goal
 
 pub put_multiplier-requires : goal.put_multiplier-requires
