@@ -1,11 +1,10 @@
 -- Reading record by record.
-use Rattle.std.proofs.Common.{◌≡◌, ℕ, zero, suc, ◌+◌, ◌-◌, ◌*◌, ◌<◌, ◌≤◌, Bool, true, false, cond, ◌&&◌, eqb, leb, List, [], ◌∷◌, ◌++◌, length, get_or, take, drop, set, is_some, Some, None, Option, sym, refl, ap, ◌∙◌, inl, inr, zero-mul, suc-mul, arith}
-use Rattle.std.proofs.lemmas.List.{append_assoc, append-nil, drop-drop, drop-take, take-take, length-take-le, length-drop, get_or-take, take_more_set, take_all}
+use Rattle.std.proofs.Common.{◌≡◌, ℕ, zero, suc, ◌+◌, ◌-◌, ◌*◌, ◌<◌, ◌≤◌, Bool, true, false, cond, ◌&&◌, leb, List, [], ◌∷◌, ◌++◌, length, get_or, take, drop, set, is_some, Some, None, Option, sym, refl, ap, ◌∙◌, inl, inr, zero-mul, suc-mul, arith}
+use Rattle.std.proofs.lemmas.List.{append_assoc, drop-take, take-take, length-take-le, length-drop, get_or-take, take_more_set}
 use Rattle.std.proofs.lemmas.Bool.{le-leb, lt-leb, and_from, eq-eqb, ne_eqb, cases_lt}
 use Rattle.weights.specs.Kinds.{Kind}
 use Rattle.tickets.specs.Codecs.{Codec}
-use Rattle.tickets.specs.Reads.{marked, small, multiplier_at, followed, multipliers_in}
-use Rattle.tickets.specs.Tickets.{multiplier_mark}
+use Rattle.tickets.specs.Reads.{multiplier_at, followed, multipliers_in}
 use Rattle.tickets.proofs.Chunked.{chunk, chunk_first, chunk_next, AllChunks}
 
 -- what was read before, and what is read behind it

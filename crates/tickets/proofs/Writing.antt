@@ -1,12 +1,12 @@
 -- Writing piece behind piece.
-use Rattle.std.proofs.Common.{◌≡◌, ℕ, ◌+◌, ◌*◌, ◌<◌, ◌≤◌, List, [], ◌∷◌, ◌++◌, length, get_or, take, drop, sym, refl, ap, ◌∙◌, subst, arith}
+use Rattle.std.proofs.Common.{◌≡◌, ℕ, ◌+◌, ◌*◌, ◌<◌, ◌≤◌, List, ◌++◌, length, get_or, take, refl, ap, ◌∙◌, subst, arith}
 use Rattle.std.specs.List.{flat_map}
 use Rattle.std.proofs.lemmas.List.{length-append, length-take-le}
 use Rattle.std.proofs.lemmas.Nat.{mul-le}
 use Rattle.tickets.specs.declared.writer.TicketWriter.{TicketWriter}
 use Rattle.tickets.specs.Packs.{splice}
 use Rattle.tickets.specs.Writers.{Puts}
-use Rattle.tickets.proofs.Splices.{splice_none, splice_join, joined_length, more_records}
+use Rattle.tickets.proofs.Splices.{splice_join, joined_length, more_records}
 
 -- two pieces behind each other are one
 pub puts_join : (a b c : TicketWriter) (xs ys : List ℕ) → Puts a b xs → Puts b c ys → a.at + length xs ≤ length a.out.now → Puts a c (xs ++ ys)

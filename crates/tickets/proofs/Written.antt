@@ -1,13 +1,12 @@
 -- What the writer puts out is the ticket.
 use Rattle.std.proofs.Common.{◌≡◌, ℕ, ◌+◌, ◌^◌, ◌≤◌, Bool, true, false, cond, not, ◌||◌, eqb, ltb, List, ◌++◌, length, drop, refl, ap, subst, ◌∙◌, arith}
 use Rattle.std.specs.List.{flat_map}
-use Rattle.std.proofs.lemmas.List.FromFn.{length-map-range_with_len}
 use Rattle.std.proofs.lemmas.List.{length-append}
 use Rattle.std.proofs.lemmas.Bool.{or_parts, not-false, eqb-true, ltb-false}
 use Rattle.weights.specs.Kinds.{Kind}
 use Rattle.weights.specs.Sizes.{beyond}
 use Rattle.tickets.specs.Codecs.{Codec}
-use Rattle.tickets.specs.Packs.{no_bits, octet, packed_length, packed, splice}
+use Rattle.tickets.specs.Packs.{no_bits, packed, splice}
 use Rattle.tickets.specs.Tickets.{Counts, head_bytes, word_mark, word_bytes, multiplier_bytes, ticket, write_refusal}
 use Rattle.tickets.proofs.Writing.{puts_join}
 use Rattle.tickets.specs.Writers.{Puts}

@@ -16,6 +16,8 @@ fn part_of(bytes: &[u8]) -> Option<i32>
 }
 
 impl TicketWeight for Plain {
+    type Bytes = [u8; 4];
+
     ghost codec = { plain_codec };
 
     ghost meant = { Prim.search rules };
@@ -28,13 +30,8 @@ impl TicketWeight for Plain {
         4
     }
 
-    fn bytes(self) -> [u8; 64]
-        ensures front { take plain_codec.width result ≡ plain_codec.put self }
-        ensures whole { result ≡ plain_bytes self ++ replicate 60 0 }
-    {
-        let mut all = [0; 64];
-        all[0..4].copy_from_slice(&self.value().to_be_bytes());
-        all
+    fn bytes(self) -> [u8; 4] {
+        self.value().to_be_bytes()
     }
 
     // A number beyond the limit would be cut, and is the number of no weight.
@@ -46,6 +43,8 @@ impl TicketWeight for Plain {
 }
 
 impl TicketWeight for Paired {
+    type Bytes = [u8; 8];
+
     ghost codec = { paired_codec };
 
     ghost meant = { Prim.search rules };
@@ -58,14 +57,11 @@ impl TicketWeight for Paired {
         8
     }
 
-    fn bytes(self) -> [u8; 64]
-        ensures front { take paired_codec.width result ≡ paired_codec.put self }
-        ensures whole { result ≡ paired_bytes self ++ replicate 56 0 }
-    {
-        let mut all = [0; 64];
-        all[0..4].copy_from_slice(&self.grey().to_be_bytes());
-        all[4..8].copy_from_slice(&self.dark().to_be_bytes());
-        all
+    fn bytes(self) -> [u8; 8] {
+        let mut both = [0; 8];
+        both[0..4].copy_from_slice(&self.grey().to_be_bytes());
+        both[4..8].copy_from_slice(&self.dark().to_be_bytes());
+        both
     }
 
     fn from_bytes(bytes: &[u8]) -> Option<Paired> {

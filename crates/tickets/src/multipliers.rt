@@ -35,7 +35,9 @@ pub(crate) fn are_multipliers<W: TicketWeight>(part: &[u8], edges: usize) -> boo
 {
     let len = record_len::<W>();
     edges.checked_mul(len) == Some(part.len())
-        && part.chunks_exact(len).all(|record| multiplier::<W>(record).is_some())
+        && part
+            .chunks_exact(len)
+            .all(|record| multiplier::<W>(record).is_some())
 }
 
 // The multiplier with which the records begin, and what lies behind it.

@@ -16,7 +16,7 @@ pub struct TicketReader<'a> {
     ghost within: { at ≤ length bytes.now },
 }
 
-// What lies behind the mark with which the bytes begin.
+// What lies behind the mark with which the bytes begin: a slice pattern takes the two apart at each record.
 pub(crate) fn behind_mark(bytes: &[u8], mark: [u8; 2]) -> Option<&[u8]>
     ensures { MatchOption result (marked mark bytes.now ≡ false) (λ rest. (marked mark bytes.now ≡ true) × (rest.now ≡ drop 2 bytes.now) × (length rest.now + 2 ≡ length bytes.now)) }
 {

@@ -175,7 +175,10 @@ fn declined_writings(rt: HostRuntime) {
     assert_eq!(rt; written(&[1, 1, 0], &[most, least, above], 27), Err(12));
     assert_eq!(rt; written(&[1, 1, 0], &[most, below, most], 28), Err(12));
     assert_eq!(rt; written(&[1, 1, 0], &[most, least], 28), Err(12));
-    assert_eq!(rt; written(&[1, 1, 0], &[most, least, most, most], 28), Err(12));
+    assert_eq!(rt;
+        written(&[1, 1, 0], &[most, least, most, most], 28),
+        Err(12)
+    );
     assert_eq!(rt; written(&[1, 2, 0], &[most, least, above], 27), Err(13));
     assert_eq!(rt; written(&[1, 1], &[most, least, most], 28), Err(13));
     assert_eq!(rt; written(&[1, 1, 0, 0], &[most], 0), Err(13));
@@ -188,7 +191,10 @@ fn declined_readings(rt: HostRuntime) {
     assert_eq!(rt; again(&layout, &[], &mut [Plain::new(7); 2]), Err(22));
     assert_eq!(rt; again(&layout, &EXAMPLE, &mut [Plain::new(7); 4]), Err(22));
     // another kind, and another layout
-    assert_eq!(rt; again(&layout, &EXAMPLE, &mut [Paired::new(7, 7); 3]), Err(16));
+    assert_eq!(rt;
+        again(&layout, &EXAMPLE, &mut [Paired::new(7, 7); 3]),
+        Err(16)
+    );
     let other = Listed::new(3, &[1, 3], &[0, 1, 2]);
     assert_eq!(rt; again(&other, &EXAMPLE, &mut [Plain::new(7); 3]), Err(16));
 }

@@ -34,7 +34,11 @@ impl<'a> Word<'a> {
     pub(crate) fn new(bytes: &'a [u8]) -> Option<Word<'a>>
         ensures { MatchOption result (no_bits bytes.now ≡ true) (λ w. (no_bits bytes.now ≡ false) × (w.bytes.now ≡ bytes.now)) }
     {
-        if is_word(bytes) { Some(Word { bytes }) } else { None }
+        if is_word(bytes) {
+            Some(Word { bytes })
+        } else {
+            None
+        }
     }
 
     pub(crate) fn len(&self) -> usize
@@ -51,6 +55,7 @@ impl<'a> Word<'a> {
         at_or_zero(self.bytes, place)
     }
 
+    // Byte j of the packed word. The cells stand one by one, as in the definition: a fold would owe the bound of each step.
     fn octet(&self, j: usize) -> u8
         requires { j < packed_length (length self.now.bytes.now) }
         ensures { result ≡ octet self.now.bytes.now j }

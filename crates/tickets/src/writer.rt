@@ -10,6 +10,7 @@ use crate::marks::{HEAD_MARK, MULTIPLIER_MARK, WORD_MARK};
 use crate::words::{Word, packed_len};
 use layouts::Layout;
 use refusals::Refusal;
+use std::convert::AsSlice;
 use weights::{MULTIPLIER_SIZE, any_beyond};
 
 // The caller's output, and the place of the next record.
@@ -57,7 +58,7 @@ impl<'a> TicketWriter<'a> {
         ensures { Puts self.old self.new (multiplier_bytes W.codec multiplier) }
     {
         self.put(&MULTIPLIER_MARK);
-        self.put(&multiplier.bytes()[..usize::from(W::width())]);
+        self.put(multiplier.bytes().as_slice());
     }
 
     // Writes the records of all multipliers.
@@ -111,7 +112,8 @@ fn check<'a, L: Layout, W: TicketWeight>(
         return Err(Refusal::GivenWord);
     }
     let word = Word::new(word).ok_or(Refusal::GivenWord)?;
-    if multipliers.len() != usize::from(layout.edges()) || any_beyond(multipliers, MULTIPLIER_SIZE)
+    if multipliers.len() != usize::from(layout.edges())
+        || any_beyond(multipliers, MULTIPLIER_SIZE)
     {
         return Err(Refusal::OfferedMultipliers);
     }

@@ -18,8 +18,8 @@ returns-then-eq g c =
     let long : length part ≡ c.args.edges * (2 + codec.width) = (search rules) ∙ ap (λ n. c.args.edges * n) c.record_len-len.ensures in
     records_tested kind codec c.all.result c.args.edges part long
     (all_chunks p _ _ (λ bs. is_some (multiplier_at kind codec bs)) c.args.edges (2 + codec.width) part c.all.result all.2
-        (subst (λ n. IsChunksExactRun p n part) size (subst (IsChunksExactRun p (chunks_exact_size p.from)) rest (c.chunks_exact.ensures.runs p p.seen (search rules))))
-        (λ a r f' h. search rules) (λ x b h. search rules) (search rules) long)
+    (subst (λ n. IsChunksExactRun p n part) size (subst (IsChunksExactRun p (chunks_exact_size p.from)) rest (c.chunks_exact.ensures.runs p p.seen (search rules))))
+    (λ a r f' h. search rules) (λ x b h. search rules) (search rules) long)
 
 pub returns-else-eq : goal.returns-else-eq
 returns-else-eq g c =

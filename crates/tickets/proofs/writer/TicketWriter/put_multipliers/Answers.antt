@@ -1,8 +1,5 @@
 use Rattle.std.proofs.Common.{◌+◌, length, arith}
-use Rattle.std.proofs.lemmas.List.{take_all}
-use Rattle.std.specs.List.{flat_map}
 use Rattle.tickets.specs.Tickets.{multiplier_bytes}
-use Rattle.tickets.specs.Writers.{Puts}
 use Rattle.tickets.proofs.Forms.{bytes_length}
 use Rattle.tickets.proofs.Splices.{record_room}
 use Rattle.tickets.proofs.Writing.{records_place, records_step}
