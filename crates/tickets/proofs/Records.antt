@@ -43,6 +43,10 @@ module _ {W : Type 0} (k : Kind W) (c : Codec W) where
       ap (λ o. followed o (multipliers_in k c n (drop (2 + c.width) left))) e ∙ ap (λ l. followed (Some m) (multipliers_in k c n l)) (sym d)
       ∙ ap (λ i. followed (Some m) (multipliers_in k c i behind)) (sym one)
 
+  none_more : (n : ℕ) (left : List ℕ) → 0 < n → multiplier_at k c left ≡ None → multipliers_in k c n left ≡ None
+  none_more zero left h e = absurd (omega arith)
+  none_more (suc n) left h e = ap (λ o. followed o (multipliers_in k c n (drop (2 + c.width) left))) e
+
   is_some_both : (o : Option W) (p : Option (List W)) → is_some (followed o p) ≡ (is_some o && is_some p)
   is_some_both (Some w) (Some us) = refl
   is_some_both (Some w) None = refl
@@ -104,3 +108,10 @@ module _ {W : Type 0} (k : Kind W) (c : Codec W) where
       ∙ sym (after_followed (take i work) m (multipliers_in k c (n - (i + 1)) behind))
       ∙ ap (λ j. after (take i work) (followed (Some m) (multipliers_in k c j behind))) (sym next)
       ∙ ap (after (take i work)) (sym (more (n - i) left behind m (omega arith) e d)) ∙ inv
+
+  pub fill_stop : (work : List W) (n : ℕ) (left : List ℕ) (o : Option (List W)) → 0 < n → multiplier_at k c left ≡ None
+      → after work (multipliers_in k c n left) ≡ o → is_some o ≡ true → ⊥
+  fill_stop work n left o h e inv s =
+      let none : None ≡ o = sym (ap (after work) (none_more n left h e)) ∙ inv in
+      let f : false ≡ true = ap is_some none ∙ s in
+      let z : ◌≡◌ {A = ℕ} 0 1 = cc in omega arith
