@@ -1,9 +1,10 @@
 pub mod Uncut
 pub mod Packing
-pub mod Writing
 pub mod Splices
+pub mod Writing
 pub mod Forms
 pub mod Written
+pub mod Chunked
 pub mod Records
 pub mod Parted
 pub mod Whole

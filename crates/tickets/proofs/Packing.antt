@@ -1,10 +1,12 @@
 -- Packing a word and unpacking it undo each other.
-use Rattle.std.proofs.Common.{◌≡◌, ℕ, zero, suc, ◌+◌, ◌-◌, ◌*◌, ◌/◌, ◌%◌, ◌^◌, ◌<◌, ◌≤◌, true, false, ◌||◌, ltb, List, [], ◌∷◌, map, length, get_or, sym, refl, ap, ◌∙◌, inl, inr, add-zero, arith}
+use Rattle.std.proofs.Common.{◌≡◌, ℕ, zero, suc, ◌+◌, ◌-◌, ◌*◌, ◌/◌, ◌%◌, ◌^◌, ◌<◌, ◌≤◌, Bool, true, false, not, ◌||◌, ltb, List, [], ◌∷◌, map, length, get_or, sym, refl, ap, ◌∙◌, inl, inr, add-zero, arith}
 use native.Mathlib.Nat.{zero-div, zero-mod}
 use Rattle.std.proofs.lemmas.Nat.{field_of, mod-pow-add, shr-shr}
 use Rattle.std.proofs.lemmas.List.FromFn.{length-map-range_with_len, get_or-map-range_with_len, fill_by_all}
 use Rattle.std.proofs.lemmas.List.{get_or_past}
-use Rattle.std.proofs.lemmas.Bool.{ltb-false, le-ltb, or_parts, eqb-true, eq-eqb, cases_lt}
+use Rattle.std.proofs.lemmas.Bool.{ltb-false, le-ltb, or_parts, eqb-true, eq-eqb, cases_lt, cases_Bool}
+use Rattle.std.proofs.lemmas.List.Elements.{All-from_get_or}
+use Rattle.std.specs.Prelude.{IsTrue, All, ◌↔◌}
 use Rattle.std.specs.List.{range_with_len}
 use Rattle.tickets.specs.Packs.{Octets, Bits, no_bits, octet, packed_length, packed, cell_bit, unpacked, clear}
 
@@ -16,6 +18,17 @@ bits_from (b ∷ x) e (suc k) = bits_from x (or_parts (ltb 1 b) (no_bits x) e).1
 pub bits_to : (x : List ℕ) → Bits x → no_bits x ≡ false
 bits_to [] h = refl
 bits_to (b ∷ x) h = ap (λ t. t || no_bits x) (le-ltb 1 b (h 0)) ∙ bits_to x (λ k. h (suc k))
+
+-- a test that each byte is at most 1
+pub word_test : (r : Bool) (x : List ℕ) → (IsTrue r ↔ All (λ b. b ≤ 1) x) → r ≡ not (no_bits x)
+word_test true x h = sym (ap not (bits_to x bits))
+  where
+    bits : Bits x
+    bits k = elim (cases_lt k (length x)) [ inl low ↦ h.0 refl k 0 low | inr past ↦ omega (arith, get_or_past x k 0 past) ]
+word_test false x h = elim (cases_Bool (no_bits x)) [
+  | inl t ↦ sym (ap not t)
+  | inr f ↦ absurd (let e : false ≡ true = h.1 (All-from_get_or (λ b. b ≤ 1) x 0 (λ k low. bits_from x f k)) in let z : ◌≡◌ {A = ℕ} 0 1 = cc in omega arith)
+]
 
 -- the eight cells of byte j
 eight : List ℕ → ℕ → List ℕ

@@ -1,9 +1,10 @@
 -- What was written piece behind piece is written as one.
-use Rattle.std.proofs.Common.{◌≡◌, ℕ, ◌+◌, ◌-◌, ◌*◌, ◌<◌, ◌≤◌, List, [], ◌∷◌, ◌++◌, length, get_or, take, drop, sym, ap, ◌∙◌, add-zero, suc-mul, add-mul, one-mul, zero-mul, arith}
+use Rattle.std.proofs.Common.{◌≡◌, ℕ, ◌+◌, ◌*◌, ◌<◌, ◌≤◌, List, [], ◌∷◌, ◌++◌, length, get_or, take, drop, sym, ap, ◌∙◌, add-zero, suc-mul, add-mul, one-mul, zero-mul, arith}
 use Rattle.std.specs.List.{flat_map}
 use Rattle.std.proofs.lemmas.Nat.{mul-le}
 use Rattle.std.proofs.lemmas.List.{append_assoc, length-append, length-take-le, take_at, drop_at, drop-drop, take-append-drop, take_more, flat_map_more}
-use Rattle.tickets.specs.Packs.{splice}
+use Rattle.std.proofs.lemmas.List.FromFn.{length-map-range_with_len}
+use Rattle.tickets.specs.Packs.{splice, octet, packed, packed_length}
 
 module _ {A : Type 0} where
   pub splice_none : (xs : List A) (a : ℕ) → splice xs a [] ≡ xs
@@ -23,24 +24,11 @@ module _ {A : Type 0} where
       ∙ append_assoc (take a xs) bs (cs ++ drop (a + length bs + length cs) xs)
       ∙ ap (λ l. take a xs ++ l) (sym (append_assoc bs cs (drop (a + length bs + length cs) xs)) ∙ ap (λ k. (bs ++ cs) ++ drop k xs) end)
 
--- the front of an array, as the code takes it
-pub front_part : (n m : ℕ) (xs ys : List ℕ) → n ≡ m → take m xs ≡ ys → take (n - 0) xs ≡ ys
-front_part n m xs ys e f = ap (λ k. take k xs) (let s : n - 0 ≡ m = omega arith in s) ∙ f
-
--- a mark, then a part
-pub mark_and_part : (xs mid out part bs : List ℕ) (a b at : ℕ) → mid ≡ splice xs at (a ∷ b ∷ []) → out ≡ splice mid (at + 2) part → part ≡ bs → at + (2 + length bs) ≤ length xs → out ≡ splice xs at (a ∷ b ∷ bs)
-mark_and_part xs mid out part bs a b at e f g h =
-    f ∙ ap (λ l. splice l (at + 2) part) e ∙ ap (splice (splice xs at (a ∷ b ∷ [])) (at + 2)) g
-    ∙ splice_join xs (a ∷ b ∷ []) bs at (at + 2) (omega arith) (omega arith)
-
 -- room for one more record
 pub record_room : (width start i len at m : ℕ) → at ≡ start + i * width → i < len → start + len * width ≤ m → at + width ≤ m
 record_room width start i len at m e h r =
     let more : (i + 1) * width ≤ len * width = mul-le (i + 1) width len width (omega arith) (omega arith) in
     omega (arith, add-mul i 1 width, one-mul width)
-
-pub record_next : (width start i at : ℕ) → at ≡ start + i * width → at + width ≡ start + (i + 1) * width
-record_next width start i at e = omega (arith, add-mul i 1 width, one-mul width)
 
 module _ {W : Type 0} (f : W → List ℕ) (width : ℕ) (each : (w : W) → length (f w) ≡ width) where
   pub joined_length : (ws : List W) → length (flat_map f ws) ≡ length ws * width
@@ -48,11 +36,8 @@ module _ {W : Type 0} (f : W → List ℕ) (width : ℕ) (each : (w : W) → len
   joined_length (w ∷ ws) = length-append (f w) (flat_map f ws) ∙ omega (arith, each w, joined_length ws, suc-mul (length ws) width)
 
   -- one record more
-  pub record_step : (xs out : List ℕ) (start i at : ℕ) (ws : List W) (w : W) → i < length ws → start + length ws * width ≤ length xs → at ≡ start + i * width → w ≡ get_or ws i w
-      → out ≡ splice xs start (flat_map f (take i ws)) → splice out at (f w) ≡ splice xs start (flat_map f (take (i + 1) ws))
-  record_step xs out start i at ws w h r e is inv =
-      let long : length (flat_map f (take i ws)) ≡ i * width = joined_length (take i ws) ∙ ap (λ k. k * width) (length-take-le i ws (omega arith)) in
-      let room = record_room width start i (length ws) at (length xs) e h r in
-      let more : flat_map f (take i ws) ++ f w ≡ flat_map f (take (i + 1) ws) =
-      ap (λ v. flat_map f (take i ws) ++ f v) is ∙ flat_map_more f [] (take i ws) (get_or ws i w) ∙ ap (flat_map f) (sym (take_more ws i w h)) in
-      ap (λ l. splice l at (f w)) inv ∙ splice_join xs (flat_map f (take i ws)) (f w) start at (omega arith) (omega arith) ∙ ap (splice xs start) more
+  pub more_records : (ws : List W) (i : ℕ) (w : W) → i < length ws → w ≡ get_or ws i w → flat_map f (take i ws) ++ f w ≡ flat_map f (take (i + 1) ws)
+  more_records ws i w h is = ap (λ v. flat_map f (take i ws) ++ f v) is ∙ flat_map_more f [] (take i ws) (get_or ws i w) ∙ ap (flat_map f) (sym (take_more ws i w h))
+
+pub packed_long : (x : List ℕ) → length (packed x) ≡ packed_length (length x)
+packed_long x = length-map-range_with_len (octet x) 0 (packed_length (length x))

@@ -1,15 +1,16 @@
 -- What the writer puts out is the ticket.
-use Rattle.std.proofs.Common.{◌≡◌, ℕ, ◌+◌, ◌^◌, ◌≤◌, Bool, true, false, cond, not, ◌||◌, eqb, ltb, List, ◌++◌, length, drop, refl, ap, ◌∙◌, arith}
+use Rattle.std.proofs.Common.{◌≡◌, ℕ, ◌+◌, ◌^◌, ◌≤◌, Bool, true, false, cond, not, ◌||◌, eqb, ltb, List, ◌++◌, length, drop, refl, ap, subst, ◌∙◌, arith}
 use Rattle.std.specs.List.{flat_map}
-use Rattle.std.proofs.lemmas.List.FromFn.{length-map-range_with_len}
 use Rattle.std.proofs.lemmas.List.{length-append}
 use Rattle.std.proofs.lemmas.Bool.{or_parts, not-false, eqb-true, ltb-false}
 use Rattle.weights.specs.Kinds.{Kind}
 use Rattle.weights.specs.Sizes.{beyond}
 use Rattle.tickets.specs.Codecs.{Codec}
-use Rattle.tickets.specs.Packs.{no_bits, octet, packed_length, packed, splice}
+use Rattle.tickets.specs.Packs.{no_bits, packed, splice}
 use Rattle.tickets.specs.Tickets.{Counts, head_bytes, word_mark, word_bytes, multiplier_bytes, ticket, write_refusal}
-use Rattle.tickets.proofs.Splices.{splice_join}
+use Rattle.tickets.proofs.Writing.{puts_join}
+use Rattle.tickets.specs.Writers.{Puts}
+use Rattle.tickets.specs.declared.writer.TicketWriter.{TicketWriter}
 
 none_of : (a b c : Bool) → ◌≡◌ {A = ℕ} (cond a 13 (cond b 12 (cond c 20 0))) 0 → (a ≡ false) × (b ≡ false) × (c ≡ false)
 none_of true b c e = absurd (omega arith)
@@ -40,19 +41,22 @@ module _ {W : Type 0} (k : Kind W) (c : Codec W) (n : Counts) (x : List ℕ) (ms
       }
 
   -- head, mark, cells and multipliers, one behind the other
-  pub written : (xs a b d out head : List ℕ) → head ≡ head_bytes c.kind_byte n → a ≡ splice xs 0 head → b ≡ splice a 7 word_mark → d ≡ splice b 9 (packed x)
-      → out ≡ splice d (9 + packed_length (length x)) (flat_map (multiplier_bytes c) ms) → length (ticket c n x ms) ≤ length xs
-      → out ≡ ticket c n x ms ++ drop (length (ticket c n x ms)) xs
+  pub written : (a b d e f : TicketWriter) (head xs y : List ℕ) → head ≡ head_bytes c.kind_byte n → y ≡ x → a.out.now ≡ xs → a.at ≡ 0 → Puts a b head → Puts b d word_mark → Puts d e (packed y)
+      → Puts e f (flat_map (multiplier_bytes c) ms) → length (ticket c n x ms) ≤ length xs
+      → (f.at ≡ length (ticket c n x ms)) × (f.out.now ≡ ticket c n x ms ++ drop f.at xs)
   unfolding ticket
-  written xs a b d out head eh ea eb ed eo fits =
+  written a b d e f head xs y eh ey ea at p q r s fits =
       let top = head_bytes c.kind_byte n in
       let records = flat_map (multiplier_bytes c) ms in
+      let whole = top ++ (word_bytes x ++ records) in
       let len = length-append (packed x) records in
-      let wide = length-map-range_with_len (octet x) 0 (packed_length (length x)) in
-      let fa : a ≡ splice xs 0 top = ea ∙ ap (splice xs 0) eh in
-      let fb : b ≡ splice xs 0 (top ++ word_mark) = eb ∙ ap (λ l. splice l 7 word_mark) fa ∙ splice_join xs top word_mark 0 7 (omega arith) (omega arith) in
-      let fd : d ≡ splice xs 0 (top ++ word_bytes x) = ed ∙ ap (λ l. splice l 9 (packed x)) fb ∙ splice_join xs (top ++ word_mark) (packed x) 0 9 (omega arith) (omega arith) in
-      let fo : out ≡ splice xs 0 (top ++ (word_bytes x ++ records)) =
-      eo ∙ ap (λ l. splice l (9 + packed_length (length x)) records) fd ∙ splice_join xs (top ++ word_bytes x) records 0 (9 + packed_length (length x)) (omega arith) (omega arith) in
-      let from : 0 + length (top ++ (word_bytes x ++ records)) ≡ length (top ++ (word_bytes x ++ records)) = omega arith in
-      fo ∙ ap (λ m. (top ++ (word_bytes x ++ records)) ++ drop m xs) from
+      let long : length a.out.now ≡ length xs = ap length ea in
+      let one : Puts a b top = subst (Puts a b) eh p in
+      let two : Puts a d (top ++ word_mark) = puts_join a b d top word_mark one q (omega arith) in
+      let cells : Puts d e (packed x) = subst (λ l. Puts d e (packed l)) ey r in
+      let three : Puts a e (top ++ word_bytes x) = puts_join a d e (top ++ word_mark) (packed x) two cells (omega arith) in
+      let all : Puts a f whole = puts_join a e f (top ++ word_bytes x) records three s (omega arith) in
+      let end : f.at ≡ length whole = omega (arith, all.place) in (
+        end,
+        all.bytes ∙ ap (λ i. splice a.out.now i whole) at ∙ ap (λ l. splice l 0 whole) ea ∙ ap (λ i. whole ++ drop i xs) (let z : 0 + length whole ≡ f.at = omega arith in z),
+      )

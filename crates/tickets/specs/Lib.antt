@@ -1,6 +1,7 @@
 pub mod Packs
 pub mod Codecs
 pub mod Tickets
+pub mod Writers
 pub mod Reads
 pub mod Parts
 pub mod PartLaws

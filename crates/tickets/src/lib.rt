@@ -2,10 +2,11 @@
 // of which word and multipliers somebody claims that they meet.
 #![tactic(auto)]
 
-ghost use Rattle.std.specs.Prelude.{◌≡◌, take, Some};
+ghost use Rattle.std.specs.Prelude.{◌≡◌, Some};
 ghost use Rattle.std.specs.Option.{option_map};
 ghost use Rattle.tickets.specs.Codecs.{Codec};
 
+use std::convert::AsSlice;
 use weights::Weight;
 
 mod head;
@@ -29,6 +30,9 @@ pub use writer::{ticket_len, write};
 
 // A kind of weights that goes on tickets. Kind byte and width are fixed for the kind.
 pub trait TicketWeight: Weight {
+    // The bytes of a weight, as many for each.
+    type Bytes: AsSlice<u8> + Copy;
+
     ghost codec: { Codec Self };
 
     fn kind_byte() -> u8
@@ -38,9 +42,8 @@ pub trait TicketWeight: Weight {
     fn width() -> u8
         ensures { result ≡ codec.width };
 
-    // The bytes of this weight, at the front.
-    fn bytes(self) -> [u8; 64]
-        ensures front { take codec.width result ≡ codec.put self };
+    fn bytes(self) -> Self::Bytes
+        ensures { Self.Bytes.items result ≡ codec.put self };
 
     // The one weight whose bytes these are, or none.
     fn from_bytes(bytes: &[u8]) -> Option<Self>

@@ -7,40 +7,46 @@ use crate::marks::MULTIPLIER_MARK;
 use crate::reader::behind_mark;
 use weights::{MULTIPLIER_SIZE, Weight};
 
+// How many bytes the record of a multiplier takes.
+fn record_len<W: TicketWeight>() -> usize
+    ensures { result ≡ 2 + W.codec.width }
+{
+    2 + usize::from(W::width())
+}
+
 // The weight whose bytes these are, unless it is too large for a multiplier.
 fn small_weight<W: TicketWeight>(bytes: &[u8]) -> Option<W>
     ensures { result ≡ small W.Weight.kind (W.codec.get bytes.now) }
 {
-    match W::from_bytes(bytes) {
-        Some(weight) if weight.size() <= MULTIPLIER_SIZE => Some(weight),
-        _ => None,
-    }
+    W::from_bytes(bytes).filter(|weight| weight.size() <= MULTIPLIER_SIZE)
 }
 
-// The multiplier with which the records begin, and what lies behind it.
-fn first_multiplier<W: TicketWeight>(records: &[u8]) -> Option<(W, &[u8])>
-    ensures { MatchOption result (multiplier_at W.Weight.kind W.codec records.now ≡ None) (λ p. (multiplier_at W.Weight.kind W.codec records.now ≡ Some p.0) × (p.1.now ≡ drop (2 + W.codec.width) records.now)) }
+// The multiplier whose record these bytes are.
+fn multiplier<W: TicketWeight>(bytes: &[u8]) -> Option<W>
+    requires { length bytes.now ≡ 2 + W.codec.width }
+    ensures { result ≡ multiplier_at W.Weight.kind W.codec bytes.now }
 {
-    let rest = behind_mark(records, MULTIPLIER_MARK)?;
-    let (bytes, behind) = rest.split_at_checked(W::width() as usize)?;
-    let weight = small_weight(bytes)?;
-    Some((weight, behind))
+    small_weight(behind_mark(bytes, MULTIPLIER_MARK)?)
 }
 
 // Whether the part has the records of so many multipliers, and nothing behind them.
 pub(crate) fn are_multipliers<W: TicketWeight>(part: &[u8], edges: usize) -> bool
     ensures { result ≡ is_some (multipliers_in W.Weight.kind W.codec edges part.now) }
 {
-    let mut left = part;
-    let mut missing = edges;
-    while missing > 0 {
-        let Some((_, behind)) = first_multiplier::<W>(left) else {
-            return false;
-        };
-        left = behind;
-        missing -= 1;
-    }
-    left.is_empty()
+    let len = record_len::<W>();
+    edges.checked_mul(len) == Some(part.len())
+        && part
+            .chunks_exact(len)
+            .all(|record| multiplier::<W>(record).is_some())
+}
+
+// The multiplier with which the records begin, and what lies behind it.
+fn first_multiplier<W: TicketWeight>(records: &[u8]) -> Option<(W, &[u8])>
+    ensures { MatchOption result (multiplier_at W.Weight.kind W.codec records.now ≡ None) (λ p. (multiplier_at W.Weight.kind W.codec records.now ≡ Some p.0) × (p.1.now ≡ drop (2 + W.codec.width) records.now)) }
+{
+    let (front, behind) = records.split_at_checked(record_len::<W>())?;
+    let first = multiplier(front)?;
+    Some((first, behind))
 }
 
 // Reads the multipliers of a part that has one for each place of the work list.
@@ -49,10 +55,11 @@ pub(crate) fn read_multipliers<W: TicketWeight>(part: &[u8], work: &mut [W])
     ensures { Some work.new ≡ multipliers_in W.Weight.kind W.codec (length work.old) part.now }
 {
     let mut left = part;
-    for i in 0..work.len() {
-        let Some(first) = first_multiplier::<W>(left) else {
+    for place in work.iter_mut() {
+        let Some((first, behind)) = first_multiplier(left) else {
             return;
         };
-        (work[i], left) = first;
+        *place = first;
+        left = behind;
     }
 }

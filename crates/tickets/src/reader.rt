@@ -16,7 +16,7 @@ pub struct TicketReader<'a> {
     ghost within: { at ≤ length bytes.now },
 }
 
-// What lies behind the mark with which the bytes begin.
+// What lies behind the mark with which the bytes begin: a slice pattern takes the two apart at each record.
 pub(crate) fn behind_mark(bytes: &[u8], mark: [u8; 2]) -> Option<&[u8]>
     ensures { MatchOption result (marked mark bytes.now ≡ false) (λ rest. (marked mark bytes.now ≡ true) × (rest.now ≡ drop 2 bytes.now) × (length rest.now + 2 ≡ length bytes.now)) }
 {
@@ -50,15 +50,15 @@ impl<'a> TicketReader<'a> {
         ensures same { self.new.bytes.now ≡ self.old.bytes.now }
     {
         let rest = behind_mark(self.rest(), HEAD_MARK)?;
-        let [kind, cells, rows, high, low, ..] = rest else {
+        let &[kind, cells, rows, high, low, ..] = rest else {
             return None;
         };
         self.at += 7;
         Some(Head {
-            kind: *kind,
-            cells: *cells,
-            rows: *rows,
-            edges: 256 * u16::from(*high) + u16::from(*low),
+            kind,
+            cells,
+            rows,
+            edges: u16::from_be_bytes([high, low]),
         })
     }
 
@@ -69,12 +69,10 @@ impl<'a> TicketReader<'a> {
         ensures same { self.new.bytes.now ≡ self.old.bytes.now }
     {
         let rest = behind_mark(self.rest(), WORD_MARK)?;
-        let len = packed_len(cells as usize);
-        if rest.len() < len {
-            return None;
-        }
-        let packed = &rest[0..len];
-        if !is_clear(packed, cells as usize) {
+        let cells = usize::from(cells);
+        let len = packed_len(cells);
+        let packed = rest.get(..len)?;
+        if !is_clear(packed, cells) {
             return None;
         }
         self.at += 2 + len;

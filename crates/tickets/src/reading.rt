@@ -31,15 +31,11 @@ fn parts<'a, L: Layout, W: TicketWeight>(
     ensures value { IfOk result (λ p. (p.0.now ≡ packed_word (counts (L.plan layout.now)) bytes.now) × (p.1.now ≡ records_part (counts (L.plan layout.now)) bytes.now)) }
 {
     let mut reader = TicketReader::new(bytes);
-    let Some(head) = reader.head() else {
-        return Err(Refusal::TicketHead);
-    };
+    let head = reader.head().ok_or(Refusal::TicketHead)?;
     if !is_expected::<L, W>(layout, head) {
         return Err(Refusal::TicketCounts);
     }
-    let Some(word) = reader.word(layout.cells()) else {
-        return Err(Refusal::TicketForm);
-    };
+    let word = reader.word(layout.cells()).ok_or(Refusal::TicketForm)?;
     Ok((word, reader.multipliers()))
 }
 
@@ -57,7 +53,7 @@ pub fn read<'a, L: Layout, W: TicketWeight>(
     ensures written { IfOk result (λ p. bytes.now ≡ ticket W.codec (counts (L.plan layout.now)) (unpacked (L.plan layout.now).cells p.now) work.new) }
     ensures same { OnErr result (work.new ≡ work.old) }
 {
-    if work.len() != layout.edges() as usize {
+    if work.len() != usize::from(layout.edges()) {
         return Err(Refusal::WorkLength);
     }
     let (word, records) = parts::<L, W>(layout, bytes)?;

@@ -1,68 +1,85 @@
 // Words, packed for a ticket: eight cells a byte, the first in the top bit.
-ghost use Rattle.std.specs.Prelude.{◌≡◌, ◌+◌, ◌≤◌, not, length, slice_index};
-ghost use Rattle.tickets.specs.Packs.{Bits, no_bits, octet, packed_length, packed, cell_bit, unpacked, clear, splice};
+ghost use Rattle.std.specs.Prelude.{◌≡◌, ◌≤◌, ◌<◌, true, false, not, length, slice_index, MatchOption};
+ghost use Rattle.tickets.specs.Packs.{Bits, no_bits, octet, packed_length, packed, cell_bit, unpacked, clear};
 
 // How many bytes the cells take.
 pub(crate) fn packed_len(cells: usize) -> usize
-    requires { cells ≤ 65535 }
     ensures { result ≡ packed_length cells }
 {
-    (cells + 7) / 8
+    cells.div_ceil(8)
 }
 
 // Whether each byte is 0 or 1.
 pub fn is_word(bytes: &[u8]) -> bool
     ensures { result ≡ not (no_bits bytes.now) }
 {
-    for b in bytes {
-        if *b > 1 {
-            return false;
-        }
-    }
-    true
+    bytes.iter().all(|byte| *byte <= 1)
 }
 
 // What stands at a place, 0 behind the end.
 fn at_or_zero(bytes: &[u8], place: usize) -> u8
     ensures { result ≡ slice_index bytes.now place }
 {
-    if place < bytes.len() { bytes[place] } else { 0 }
+    bytes.get(place).copied().unwrap_or(0)
 }
 
-fn cell(word: &[u8], place: usize) -> u8
-    requires { Bits word.now }
-    ensures value { result ≡ slice_index word.now place }
-    ensures bit { result ≤ 1 }
-{
-    at_or_zero(word, place)
+// One byte of 0 or 1 for each cell.
+#[derive(Clone, Copy)]
+pub(crate) struct Word<'a> {
+    bytes: &'a [u8],
+    ghost bits: { Bits bytes.now },
 }
 
-fn octet(word: &[u8], j: usize) -> u8
-    requires bits { Bits word.now }
-    requires few { j ≤ 128 }
-    ensures { result ≡ octet word.now j }
-{
-    let first = 8 * j;
-    let high = 128 * cell(word, first)
-        + 64 * cell(word, first + 1)
-        + 32 * cell(word, first + 2)
-        + 16 * cell(word, first + 3);
-    let low = 8 * cell(word, first + 4)
-        + 4 * cell(word, first + 5)
-        + 2 * cell(word, first + 6)
-        + cell(word, first + 7);
-    high + low
-}
+impl<'a> Word<'a> {
+    pub(crate) fn new(bytes: &'a [u8]) -> Option<Word<'a>>
+        ensures { MatchOption result (no_bits bytes.now ≡ true) (λ w. (no_bits bytes.now ≡ false) × (w.bytes.now ≡ bytes.now)) }
+    {
+        if is_word(bytes) {
+            Some(Word { bytes })
+        } else {
+            None
+        }
+    }
 
-// Writes the packed word from a place on.
-pub(crate) fn put_packed(out: &mut [u8], at: usize, word: &[u8])
-    requires bits { Bits word.now }
-    requires few { length word.now ≤ 128 }
-    requires room { at + packed_length (length word.now) ≤ length out.old }
-    ensures { out.new ≡ splice out.old at (packed word.now) }
-{
-    for j in 0..packed_len(word.len()) {
-        out[at + j] = octet(word, j);
+    pub(crate) fn len(&self) -> usize
+        ensures { result ≡ length self.now.bytes.now }
+    {
+        self.bytes.len()
+    }
+
+    // A cell, 0 behind the last.
+    fn cell(&self, place: usize) -> u8
+        ensures value { result ≡ slice_index self.now.bytes.now place }
+        ensures bit { result ≤ 1 }
+    {
+        at_or_zero(self.bytes, place)
+    }
+
+    // Byte j of the packed word. The cells stand one by one, as in the definition: a fold would owe the bound of each step.
+    fn octet(&self, j: usize) -> u8
+        requires { j < packed_length (length self.now.bytes.now) }
+        ensures { result ≡ octet self.now.bytes.now j }
+    {
+        let first = 8 * j;
+        let high = 128 * self.cell(first)
+            + 64 * self.cell(first + 1)
+            + 32 * self.cell(first + 2)
+            + 16 * self.cell(first + 3);
+        let low = 8 * self.cell(first + 4)
+            + 4 * self.cell(first + 5)
+            + 2 * self.cell(first + 6)
+            + self.cell(first + 7);
+        high + low
+    }
+
+    // Packs all cells into as many bytes as they take.
+    pub(crate) fn pack(&self, out: &mut [u8])
+        requires { length out.old ≡ packed_length (length self.now.bytes.now) }
+        ensures { out.new ≡ packed self.now.bytes.now }
+    {
+        for (j, byte) in out.iter_mut().enumerate() {
+            *byte = self.octet(j);
+        }
     }
 }
 
@@ -77,8 +94,8 @@ fn bit_of(packed: &[u8], cell: usize) -> u8
 pub fn unpack(packed: &[u8], word: &mut [u8])
     ensures { word.new ≡ unpacked (length word.old) packed.now }
 {
-    for i in 0..word.len() {
-        word[i] = bit_of(packed, i);
+    for (i, cell) in word.iter_mut().enumerate() {
+        *cell = bit_of(packed, i);
     }
 }
 

@@ -2,58 +2,90 @@
 ghost use Rattle.std.specs.Prelude.{◌≡◌, ◌+◌, ◌*◌, ◌≤◌, ◌++◌, length, drop, IfOk, OnErr, OnOk};
 ghost use Rattle.refusals.specs.Numbers.{number_of};
 ghost use Rattle.std.specs.List.{flat_map};
-ghost use Rattle.tickets.specs.Packs.{splice};
+ghost use Rattle.tickets.specs.Packs.{packed_length, packed};
 ghost use Rattle.tickets.specs.Tickets.{counts, head_bytes, multiplier_bytes, ticket, ticket_size, write_refusal, Writable};
 
 use crate::TicketWeight;
 use crate::marks::{HEAD_MARK, MULTIPLIER_MARK, WORD_MARK};
-use crate::words::{is_word, packed_len, put_packed};
+use crate::words::{Word, packed_len};
 use layouts::Layout;
 use refusals::Refusal;
+use std::convert::AsSlice;
 use weights::{MULTIPLIER_SIZE, any_beyond};
 
-// Writes bytes from a place on.
-fn place(out: &mut [u8], at: usize, bytes: &[u8])
-    requires { at + length bytes.now ≤ length out.old }
-    ensures { out.new ≡ splice out.old at bytes.now }
-{
-    out[at..at + bytes.len()].copy_from_slice(bytes);
+// The caller's output, and the place of the next record.
+#[derive(Drop)]
+struct TicketWriter<'a> {
+    out: &'a mut [u8],
+    at: usize,
 }
 
-fn put_multiplier<W: TicketWeight>(out: &mut [u8], at: usize, multiplier: W)
-    requires { at + (2 + W.codec.width) ≤ length out.old }
-    ensures { out.new ≡ splice out.old at (multiplier_bytes W.codec multiplier) }
-{
-    place(out, at, &MULTIPLIER_MARK);
-    let bytes = multiplier.bytes();
-    place(out, at + 2, &bytes[0..W::width() as usize]);
-}
+impl<'a> TicketWriter<'a> {
+    ghost use Rattle.tickets.specs.Writers.{Puts};
 
-// Writes the records of all multipliers from a place on.
-fn put_multipliers<W: TicketWeight>(out: &mut [u8], start: usize, multipliers: &[W])
-    requires { start + length multipliers.now * (2 + W.codec.width) ≤ length out.old }
-    ensures { out.new ≡ splice out.old start (flat_map (multiplier_bytes W.codec) multipliers.now) }
-{
-    let mut at = start;
-    for m in multipliers {
-        put_multiplier(out, at, *m);
-        at += 2 + W::width() as usize;
+    fn new(out: &'a mut [u8]) -> TicketWriter<'a>
+        ensures same_output { result.out.ghost_name ≡ out.entry.ghost_name }
+        ensures bytes { result.out.now ≡ out.old }
+        ensures place { result.at ≡ 0 }
+    {
+        TicketWriter { out, at: 0 }
+    }
+
+    // Writes bytes at the place, which then moves behind them.
+    fn put(&mut self, bytes: &[u8])
+        requires { self.old.at + length bytes.now ≤ length self.old.out.now }
+        ensures { Puts self.old self.new bytes.now }
+    {
+        let end = self.at + bytes.len();
+        let out = &mut *self.out;
+        out[self.at..end].copy_from_slice(bytes);
+        self.at = end;
+    }
+
+    // Writes the cells of a word, packed.
+    fn put_packed(&mut self, word: &Word)
+        requires { self.old.at + packed_length (length word.now.bytes.now) ≤ length self.old.out.now }
+        ensures { Puts self.old self.new (packed word.now.bytes.now) }
+    {
+        let end = self.at + packed_len(word.len());
+        let out = &mut *self.out;
+        word.pack(&mut out[self.at..end]);
+        self.at = end;
+    }
+
+    fn put_multiplier<W: TicketWeight>(&mut self, multiplier: W)
+        requires { self.old.at + (2 + W.codec.width) ≤ length self.old.out.now }
+        ensures { Puts self.old self.new (multiplier_bytes W.codec multiplier) }
+    {
+        self.put(&MULTIPLIER_MARK);
+        self.put(multiplier.bytes().as_slice());
+    }
+
+    // Writes the records of all multipliers.
+    fn put_multipliers<W: TicketWeight>(&mut self, multipliers: &[W])
+        requires { self.old.at + length multipliers.now * (2 + W.codec.width) ≤ length self.old.out.now }
+        ensures { Puts self.old self.new (flat_map (multiplier_bytes W.codec) multipliers.now) }
+    {
+        for multiplier in multipliers {
+            self.put_multiplier(*multiplier);
+        }
     }
 }
 
+// A layout's counts of cells and rows are small enough for a byte each.
 fn head_of<L: Layout, W: TicketWeight>(layout: &L) -> [u8; 7]
     ensures { result ≡ head_bytes W.TicketWeight.codec.kind_byte (counts (L.plan layout.now)) }
 {
     let [first, second] = HEAD_MARK;
-    let edges = layout.edges();
+    let [high, low] = layout.edges().to_be_bytes();
     [
         first,
         second,
         W::kind_byte(),
         layout.cells() as u8,
         layout.rows() as u8,
-        (edges / 256) as u8,
-        (edges % 256) as u8,
+        high,
+        low,
     ]
 }
 
@@ -61,31 +93,34 @@ fn head_of<L: Layout, W: TicketWeight>(layout: &L) -> [u8; 7]
 pub fn ticket_len<L: Layout, W: TicketWeight>(layout: &L) -> usize
     ensures { result ≡ ticket_size W.codec (counts (L.plan layout.now)) }
 {
-    9 + packed_len(layout.cells() as usize) + layout.edges() as usize * (2 + W::width() as usize)
+    9 + packed_len(usize::from(layout.cells()))
+        + usize::from(layout.edges()) * (2 + usize::from(W::width()))
 }
 
-// The length of the ticket, where it may be written.
-fn check<L: Layout, W: TicketWeight>(
+// The word, where its ticket may be written.
+fn check<'a, L: Layout, W: TicketWeight>(
     layout: &L,
-    word: &[u8],
+    word: &'a [u8],
     multipliers: &[W],
     room: usize,
-) -> Result<usize, Refusal>
+) -> Result<Word<'a>, Refusal>
     ensures number { number_of result ≡ write_refusal W.Weight.kind W.codec (counts (L.plan layout.now)) word.now multipliers.now room }
-    ensures length { IfOk result (λ n. n ≡ length (ticket W.codec (counts (L.plan layout.now)) word.now multipliers.now)) }
+    ensures word { IfOk result (λ w. w.bytes.now ≡ word.now) }
     ensures fit { OnOk result (Writable W.codec word.now multipliers.now room) }
 {
-    if word.len() != layout.cells() as usize || !is_word(word) {
+    if word.len() != usize::from(layout.cells()) {
         return Err(Refusal::GivenWord);
     }
-    if multipliers.len() != layout.edges() as usize || any_beyond(multipliers, MULTIPLIER_SIZE) {
+    let word = Word::new(word).ok_or(Refusal::GivenWord)?;
+    if multipliers.len() != usize::from(layout.edges())
+        || any_beyond(multipliers, MULTIPLIER_SIZE)
+    {
         return Err(Refusal::OfferedMultipliers);
     }
-    let end = ticket_len::<L, W>(layout);
-    if room < end {
+    if room < ticket_len::<L, W>(layout) {
         return Err(Refusal::OutputShort);
     }
-    Ok(end)
+    Ok(word)
 }
 
 // Writes the ticket of a word and its multipliers at the front of the output, and answers its length. The bytes behind it
@@ -101,10 +136,11 @@ pub fn write<L: Layout, W: TicketWeight>(
     ensures after { IfOk result (λ n. out.new ≡ ticket W.codec (counts (L.plan layout.now)) word.now multipliers.now ++ drop n out.old) }
     ensures same { OnErr result (out.new ≡ out.old) }
 {
-    let end = check(layout, word, multipliers, out.len())?;
-    place(out, 0, &head_of::<L, W>(layout));
-    place(out, 7, &WORD_MARK);
-    put_packed(out, 9, word);
-    put_multipliers(out, 9 + packed_len(word.len()), multipliers);
-    Ok(end)
+    let word = check(layout, word, multipliers, out.len())?;
+    let mut writer = TicketWriter::new(out);
+    writer.put(&head_of::<L, W>(layout));
+    writer.put(&WORD_MARK);
+    writer.put_packed(&word);
+    writer.put_multipliers(multipliers);
+    Ok(writer.at)
 }

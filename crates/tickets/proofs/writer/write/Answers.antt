@@ -1,24 +1,23 @@
-use Rattle.std.proofs.Common.{◌≡◌, ◌+◌, ◌≤◌, ◌++◌, length, drop, sym, ap, ◌∙◌, arith}
-use Rattle.std.specs.List.{flat_map}
-use Rattle.tickets.specs.Packs.{packed_length, splice}
-use Rattle.tickets.specs.Tickets.{counts, multiplier_bytes, ticket}
+use Rattle.std.proofs.Common.{◌≡◌, ◌≤◌, length, ap, ◌∙◌, arith, rules}
+use Rattle.tickets.specs.Tickets.{counts, ticket}
 use Rattle.tickets.proofs.Forms.{ticket_length}
+use Rattle.tickets.proofs.Splices.{packed_long}
 use Rattle.tickets.proofs.Written.{written}
 use Rattle.tickets.proofs.writer.write.Goals as goal
 
+pub put_multipliers-requires : goal.put_multipliers-requires
+put_multipliers-requires g c = grind (arith, c.in_ok-word.ensures.fit.fits, packed_long c.in_ok-word.word.bytes.now, ap length c.in_ok-word.ensures.word)
+
 pub returns : goal.returns
 returns g c =
-    let kind = g.W.Weight.kind in
     let codec = g.W.TicketWeight.codec in
     let n = counts (g.L.Layout.plan c.args.layout.now) in
-    let x = c.args.word.now in
-    let ms = c.args.multipliers.now in
-    let out = c.args.out.now in
-    let passed = c.in_ok-end.ensures in
-    let long : c.in_ok-end.end ≡ length (ticket codec n x ms) = passed.length in
-    let fits : length (ticket codec n x ms) ≤ length out = omega (arith, ticket_length kind codec n x ms, passed.fit.fits) in
-    let at : 9 + c.packed_len.result ≡ 9 + packed_length (length x) = ap (λ m. 9 + m) c.packed_len.ensures in
-    let last = c.put_multipliers.ensures ∙ ap (λ m. splice c.put_packed.new.out m (flat_map (multiplier_bytes codec) ms)) at in
-    let all = written kind codec n x ms out c.place.new.out c.place-2.new.out c.put_packed.new.out c.put_multipliers.new.out c.head_of.result
-    c.head_of.ensures c.place.ensures c.place-2.ensures c.put_packed.ensures last fits in
-    record { number = passed.number; length = long; after = all ∙ ap (λ m. ticket codec n x ms ++ drop m out) (sym long); same = tt }
+    let passed = c.in_ok-word.ensures in
+    let fits : length (ticket codec n c.args.word.now c.args.multipliers.now) ≤ length c.args.out.now =
+    omega (arith, ticket_length g.W.Weight.kind codec n c.args.word.now c.args.multipliers.now, passed.fit.fits) in
+    let all = written g.W.Weight.kind codec n c.args.word.now c.args.multipliers.now c.new-writer.result c.put.new.self c.put-2.new.self c.put_packed.new.self c.put_multipliers.new.self
+    c.head_of.result c.args.out.now c.in_ok-word.word.bytes.now c.head_of.ensures passed.word c.new-writer.ensures.bytes c.new-writer.ensures.place
+    c.put.ensures c.put-2.ensures c.put_packed.ensures c.put_multipliers.ensures fits in
+    let last : c.put_multipliers.new.self.out.ghost_name ≡ c.new-writer.result.out.ghost_name =
+    c.put_multipliers.ensures.same_output ∙ c.put_packed.ensures.same_output ∙ c.put-2.ensures.same_output ∙ c.put.ensures.same_output in
+    record { number = passed.number; length = all.0; after = (search rules) ∙ all.1; same = tt }
