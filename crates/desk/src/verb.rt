@@ -34,6 +34,7 @@ pub const ALL: [Verb; 11] = [
 ];
 
 impl Verb {
+    // The word that the command begins with.
     fn word(self) -> &'static str {
         match self {
             Verb::Help => "help",
@@ -80,14 +81,13 @@ impl Verb {
             Verb::Multipliers => "sets the multipliers, one an edge, written as costs are",
             Verb::Choices => "answers the choice of each row and its sum",
             Verb::Floor => "answers the slacks, the trial word and the floor",
-            Verb::Encode =>
-                "answers the ticket of a word, as 110, and of multipliers, one an edge",
+            Verb::Encode => "answers the ticket of a word, as 110, and of multipliers, one an edge",
             Verb::Decode => "answers the word and the multipliers of a ticket",
         }
     }
 }
 
-// The command's form.
+// The form of the command.
 impl fmt::Display for Verb {
     fn fmt<W: fmt::Write>(&self, f: &mut fmt::Formatter<W>) -> fmt::Result {
         write!(f, "{}{}", self.word(), self.rest())

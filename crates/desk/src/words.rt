@@ -69,7 +69,7 @@ impl FromWord for u8 {
         ensures { MatchResult result (λ n. Digits word.now × (n ≡ said word.now)) (λ _. Digits word.now → 256 ≤ said word.now) }
     {
         let value = digits(word.as_bytes()).ok_or(Mistake::Grey)?;
-        u8::try_from(value).ok().ok_or(Mistake::Grey)
+        u8::try_from(value).map_err(|_| Mistake::Grey)
     }
 }
 
