@@ -42,6 +42,7 @@ pub enum Command<'a> {
     Ask(Query<'a>),
 }
 
+// `heap` goes along to all that allocates, as allocators do.
 pub fn parse<'a>(heap: Global, words: &'a [&'a str]) -> Result<Command<'a>, Fault> {
     let (first, rest) = words.split_first().ok_or(Mistake::Unknown)?;
     let verb: Verb = first.parse()?;
