@@ -1,5 +1,5 @@
 // The texts that answer commands.
-use crate::weights_text::{Shown, Single, Spaced};
+use crate::weights_text::{Shown, Spaced};
 use layouts::{CellNo, Layout, RowNo};
 use std::alloc::{AllocError, Global};
 use std::fmt;
@@ -45,12 +45,11 @@ pub fn floor<W: Shown>(
 ) -> Result<String, AllocError> {
     let slacks = Spaced(slacks);
     let trial = Bits(trial);
-    let floor = Single(floor);
     format!(in heap; "slacks{slacks}\ntrial {trial}\nfloor {floor}\n")
 }
 
 pub fn ticket(heap: Global, bytes: &[u8]) -> Result<String, AllocError> {
-    let bytes = Hex(bytes);
+    let bytes = hex::encode_upper(heap, bytes)?;
     format!(in heap; "ticket {bytes}\n")
 }
 
@@ -85,7 +84,6 @@ impl<L: Layout, W: Shown> fmt::Display for Rows<'_, L, W> {
                 row: RowNo(row),
                 marks: own,
             };
-            let sum = Single(*sum);
             writeln!(f, "row {row} choice{cells} sum {sum}")?;
             marks = after;
         }
@@ -121,19 +119,6 @@ impl fmt::Display for Bits<'_> {
     fn fmt<F: fmt::Write>(&self, f: &mut fmt::Formatter<F>) -> fmt::Result {
         for bit in self.0 {
             write!(f, "{bit}")?;
-        }
-        Ok(())
-    }
-}
-
-// Two digits a byte.
-#[derive(Drop)]
-struct Hex<'a>(&'a [u8]);
-
-impl fmt::Display for Hex<'_> {
-    fn fmt<F: fmt::Write>(&self, f: &mut fmt::Formatter<F>) -> fmt::Result {
-        for byte in self.0 {
-            write!(f, "{byte:02X}")?;
         }
         Ok(())
     }

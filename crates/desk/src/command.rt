@@ -42,11 +42,10 @@ pub enum Command<'a> {
     Ask(Query<'a>),
 }
 
+// `heap` goes along to all that allocates, as allocators do.
 pub fn parse<'a>(heap: Global, words: &'a [&'a str]) -> Result<Command<'a>, Fault> {
-    let Some((first, rest)) = words.split_first() else {
-        return Err(Fault::Mistake(Mistake::Unknown));
-    };
-    let verb = Verb::of(first).ok_or(Mistake::Unknown)?;
+    let (first, rest) = words.split_first().ok_or(Mistake::Unknown)?;
+    let verb: Verb = first.parse()?;
     continued(heap, verb, rest)
 }
 
@@ -76,40 +75,35 @@ fn short<'a>(verb: Verb, rest: &[&str]) -> Result<Command<'a>, Fault> {
         (Verb::Kind, ["paired"]) => Ok(Command::Kind(KindName::Paired)),
         (Verb::Choices, []) => Ok(Command::Ask(Query::Choices)),
         (Verb::Floor, []) => Ok(Command::Ask(Query::Floor)),
-        _ => Err(Fault::Mistake(Mistake::Form(verb))),
+        _ => Err(Fault::from(Mistake::Form(verb))),
     }
 }
 
 fn listing(heap: Global, rest: &[&str]) -> Result<Listing, Fault> {
     let [cells, "ends", rows @ ..] = rest else {
-        return Err(Fault::Mistake(Mistake::Form(Verb::Listed)));
+        return Err(Fault::from(Mistake::Form(Verb::Listed)));
     };
     let cells = u16::from_word(cells)?;
-    for (i, word) in rows.iter().enumerate() {
-        if *word == "entries" {
-            let ends = words::values(heap, &rows[0..i])?;
-            let entries = words::values(heap, &rows[i + 1..])?;
-            return Ok(Listing {
-                cells,
-                ends,
-                entries,
-            });
-        }
-    }
-    Err(Fault::Mistake(Mistake::Form(Verb::Listed)))
+    let split = rows.iter().position(|word| *word == "entries");
+    let split = split.ok_or(Mistake::Form(Verb::Listed))?;
+    Ok(Listing {
+        cells,
+        ends: words::values(heap, &rows[..split])?,
+        entries: words::values(heap, &rows[split + 1..])?,
+    })
 }
 
 fn encoding<'a>(heap: Global, rest: &'a [&'a str]) -> Result<Query<'a>, Fault> {
     let [word, multipliers @ ..] = rest else {
-        return Err(Fault::Mistake(Mistake::Form(Verb::Encode)));
+        return Err(Fault::from(Mistake::Form(Verb::Encode)));
     };
     let word = words::cells(heap, word)?;
     Ok(Query::Encode { word, multipliers })
 }
 
 fn decoding<'a>(heap: Global, rest: &[&str]) -> Result<Query<'a>, Fault> {
-    let [hex] = rest else {
-        return Err(Fault::Mistake(Mistake::Form(Verb::Decode)));
+    let [digits] = rest else {
+        return Err(Fault::from(Mistake::Form(Verb::Decode)));
     };
-    Ok(Query::Decode(words::hex(heap, hex)?))
+    Ok(Query::Decode(hex::decode(heap, *digits)?))
 }

@@ -9,6 +9,7 @@ use layouts::Grid;
 use std::alloc::{AllocError, Global};
 use weights::{Paired, Plain};
 
+// An enum, since a boxed kind may not be made and handed out.
 #[derive(Drop)]
 enum Kind {
     Plain(Boards<Plain>),
@@ -37,19 +38,17 @@ impl Desk {
             Ok(text) => Ok(text),
             Err(Fault::Mistake(mistake)) => format!(in self.heap; "line {number}: {mistake}\n"),
             Err(Fault::Refused(refusal)) => format!(in self.heap; "{refusal}\n"),
-            Err(Fault::Memory) => Err(AllocError),
+            Err(Fault::Memory(error)) => Err(error),
         }
     }
 
     fn obey(&mut self, line: &[u8]) -> Result<String, Fault> {
         let line = line.trim_ascii();
-        if line.is_empty() || line[0] == b'#' {
+        if line.is_empty() || line.starts_with(b"#") {
             return Ok(String::new(self.heap));
         }
-        match std::str::from_utf8(line) {
-            Ok(text) => self.obey_text(text),
-            Err(_) => Err(Fault::Mistake(Mistake::NotText)),
-        }
+        let text = std::str::from_utf8(line).map_err(|_| Mistake::NotText)?;
+        self.obey_text(text)
     }
 
     fn obey_text(&mut self, text: &str) -> Result<String, Fault> {
@@ -103,8 +102,8 @@ impl Desk {
 
     fn set(&mut self, setting: Setting) -> Result<String, Fault> {
         match &mut self.kind {
-            Kind::Plain(boards) => boards.set(self.heap, setting),
-            Kind::Paired(boards) => boards.set(self.heap, setting),
+            Kind::Plain(boards) => boards.set(setting),
+            Kind::Paired(boards) => boards.set(setting),
         }
     }
 
@@ -117,9 +116,9 @@ impl Desk {
 
     fn ask_of<W: Shown>(&self, boards: &Boards<W>, query: Query) -> Result<String, Fault> {
         match &self.shape {
-            Some(Shape::Listed(listing)) => boards.ask(self.heap, &listing.layout(), query),
-            Some(Shape::Grid(grid)) => boards.ask(self.heap, grid, query),
-            None => Err(Fault::Mistake(Mistake::NoLayout)),
+            Some(Shape::Listed(listing)) => boards.ask(&listing.layout(), query),
+            Some(Shape::Grid(grid)) => boards.ask(grid, query),
+            None => Err(Fault::from(Mistake::NoLayout)),
         }
     }
 }

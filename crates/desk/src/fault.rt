@@ -1,77 +1,51 @@
 // Why a line is not carried out.
 use crate::verb::Verb;
+use hex::FromHexError;
 use refusals::Refusal;
-use std::alloc::{AllocError, AllocFailed};
-use std::fmt;
+use std::alloc::AllocError;
+use thiserror::Error;
 
 // What a line should have held.
-#[derive(Clone, Copy)]
+#[derive(Clone, Copy, Debug, Error)]
 pub enum Mistake {
+    #[error("expected text in UTF-8")]
     NotText,
+    #[error("expected a command: help lists them")]
     Unknown,
+    #[error("expected {0}")]
     Form(Verb),
+    #[error("expected a number in decimal, without a sign")]
     Count,
+    #[error("a grey is 0 to 255")]
     Grey,
+    #[error("expected numbers in decimal, as -5")]
     Plain,
+    #[error("expected pairs of numbers in decimal, as -5,1")]
     Paired,
+    #[error("expected a word, a digit a cell, as 110")]
     Word,
+    #[error("expected a ticket, two hexadecimal digits a byte")]
     Hex,
+    #[error("choose a layout first, by listed or grid")]
     NoLayout,
 }
 
-impl fmt::Display for Mistake {
-    fn fmt<W: fmt::Write>(&self, f: &mut fmt::Formatter<W>) -> fmt::Result {
-        let expected = match self {
-            Mistake::NotText => "expected text in UTF-8",
-            Mistake::Unknown => "expected a command: help lists them",
-            Mistake::Form(verb) => return write_form(f, *verb),
-            Mistake::Count => "expected a number in decimal, without a sign",
-            Mistake::Grey => "a grey is 0 to 255",
-            Mistake::Plain => "expected numbers in decimal, as -5",
-            Mistake::Paired => "expected pairs of numbers in decimal, as -5,1",
-            Mistake::Word => "expected a word, a digit a cell, as 110",
-            Mistake::Hex => "expected a ticket, two hexadecimal digits a byte",
-            Mistake::NoLayout => "choose a layout first, by listed or grid",
-        };
-        f.write_str(expected)
-    }
-}
-
-fn write_form<W: fmt::Write>(f: &mut fmt::Formatter<W>, verb: Verb) -> fmt::Result {
-    match verb.entry() {
-        Some(entry) => write!(f, "expected {}{}", entry.word, entry.rest),
-        None => Ok(()),
-    }
-}
-
-#[derive(Clone, Copy)]
+#[derive(Clone, Copy, Debug, Error)]
 pub enum Fault {
-    Mistake(Mistake),
-    Refused(Refusal),
+    #[error(transparent)]
+    Mistake(#[from] Mistake),
+    #[error(transparent)]
+    Refused(#[from] Refusal),
     // the one fault that ends the program
-    Memory,
+    #[error(transparent)]
+    Memory(#[from(alloc)] AllocError),
 }
 
-impl From<Mistake> for Fault {
-    fn from(mistake: Mistake) -> Fault {
-        Fault::Mistake(mistake)
-    }
-}
-
-impl From<Refusal> for Fault {
-    fn from(refusal: Refusal) -> Fault {
-        Fault::Refused(refusal)
-    }
-}
-
-impl From<AllocError> for Fault {
-    fn from(_error: AllocError) -> Fault {
-        Fault::Memory
-    }
-}
-
-impl<T: Drop> From<AllocFailed<T>> for Fault {
-    fn from(_error: AllocFailed<T>) -> Fault {
-        Fault::Memory
+impl From<FromHexError> for Fault {
+    fn from(error: FromHexError) -> Fault {
+        match error {
+            FromHexError::OutOfMemory => Fault::Memory(AllocError),
+            _ => Fault::Mistake(Mistake::Hex),
+        }
     }
 }

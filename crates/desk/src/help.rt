@@ -8,8 +8,8 @@ pub struct Commands;
 
 impl fmt::Display for Commands {
     fn fmt<W: fmt::Write>(&self, f: &mut fmt::Formatter<W>) -> fmt::Result {
-        for entry in &verb::ENTRIES {
-            writeln!(f, "{}{}: {}", entry.word, entry.rest, entry.purpose)?;
+        for verb in verb::ALL {
+            writeln!(f, "{verb}: {}", verb.purpose())?;
         }
         Ok(())
     }

@@ -18,9 +18,8 @@ use std::io::{BufRead, BufReader};
 fn run(rt: &HostRuntime) -> io::Result<()> {
     let heap = rt.alloc();
     let mut desk = desk::Desk::new(heap);
-    let mut number: u64 = 0;
-    for line in BufReader::new(heap, rt.stdin())?.split(heap, b'\n') {
-        number = number.wrapping_add(1);
+    let lines = BufReader::new(heap, rt.stdin())?.split(heap, b'\n');
+    for (number, line) in (1u64..).zip(lines) {
         let text = desk.answer(number, &line?)?;
         print!(rt; "{text}")?;
     }

@@ -1,5 +1,9 @@
 // The words that commands begin with, and what is said of each command.
-#[derive(Clone, Copy, PartialEq, Eq)]
+use crate::fault::Mistake;
+use std::fmt;
+use std::str::FromStr;
+
+#[derive(Clone, Copy, PartialEq, Eq, Debug)]
 pub enum Verb {
     Help,
     Listed,
@@ -14,100 +18,88 @@ pub enum Verb {
     Decode,
 }
 
-// A command for a person: its first word, what follows that word, and what the command does.
-pub struct Entry {
-    verb: Verb,
-    pub word: &'static str,
-    pub rest: &'static str,
-    pub purpose: &'static str,
-}
-
 // In the order in which help lists them.
-pub static ENTRIES: [Entry; 11] = [
-    Entry {
-        verb: Verb::Help,
-        word: "help",
-        rest: "",
-        purpose: "lists the commands",
-    },
-    Entry {
-        verb: Verb::Listed,
-        word: "listed",
-        rest: " CELLS ends E.. entries C..",
-        purpose: "chooses a layout by where each row ends and the cells of all rows in order",
-    },
-    Entry {
-        verb: Verb::Grid,
-        word: "grid",
-        rest: " A B",
-        purpose: "chooses a grid of A lines and B columns, each 2 to 11",
-    },
-    Entry {
-        verb: Verb::Kind,
-        word: "kind",
-        rest: " plain or kind paired",
-        purpose: "chooses the kind of weights; another kind than before forgets costs and multipliers",
-    },
-    Entry {
-        verb: Verb::Greys,
-        word: "greys",
-        rest: " G..",
-        purpose: "sets the costs by greys, 0 for black to 255 for white, one a cell",
-    },
-    Entry {
-        verb: Verb::Costs,
-        word: "costs",
-        rest: " C..",
-        purpose: "sets the costs, one a cell, as -5 in kind plain and as -5,1 in kind paired",
-    },
-    Entry {
-        verb: Verb::Multipliers,
-        word: "multipliers",
-        rest: " M..",
-        purpose: "sets the multipliers, one an edge, written as costs are",
-    },
-    Entry {
-        verb: Verb::Choices,
-        word: "choices",
-        rest: "",
-        purpose: "answers the choice of each row and its sum",
-    },
-    Entry {
-        verb: Verb::Floor,
-        word: "floor",
-        rest: "",
-        purpose: "answers the slacks, the trial word and the floor",
-    },
-    Entry {
-        verb: Verb::Encode,
-        word: "encode",
-        rest: " WORD M..",
-        purpose: "answers the ticket of a word, as 110, and of multipliers, one an edge",
-    },
-    Entry {
-        verb: Verb::Decode,
-        word: "decode",
-        rest: " HEX",
-        purpose: "answers the word and the multipliers of a ticket",
-    },
+pub const ALL: [Verb; 11] = [
+    Verb::Help,
+    Verb::Listed,
+    Verb::Grid,
+    Verb::Kind,
+    Verb::Greys,
+    Verb::Costs,
+    Verb::Multipliers,
+    Verb::Choices,
+    Verb::Floor,
+    Verb::Encode,
+    Verb::Decode,
 ];
 
 impl Verb {
-    pub fn of(word: &str) -> Option<Verb> {
-        for entry in &ENTRIES {
-            if entry.word == word {
-                return Some(entry.verb);
-            }
+    // The word that the command begins with.
+    fn word(self) -> &'static str {
+        match self {
+            Verb::Help => "help",
+            Verb::Listed => "listed",
+            Verb::Grid => "grid",
+            Verb::Kind => "kind",
+            Verb::Greys => "greys",
+            Verb::Costs => "costs",
+            Verb::Multipliers => "multipliers",
+            Verb::Choices => "choices",
+            Verb::Floor => "floor",
+            Verb::Encode => "encode",
+            Verb::Decode => "decode",
         }
-        None
     }
 
-    pub fn entry(self) -> Option<&'static Entry> {
-        for entry in &ENTRIES {
-            if entry.verb == self {
-                return Some(entry);
-            }
+    // What follows the word.
+    fn rest(self) -> &'static str {
+        match self {
+            Verb::Help | Verb::Choices | Verb::Floor => "",
+            Verb::Listed => " CELLS ends E.. entries C..",
+            Verb::Grid => " A B",
+            Verb::Kind => " plain or kind paired",
+            Verb::Greys => " G..",
+            Verb::Costs => " C..",
+            Verb::Multipliers => " M..",
+            Verb::Encode => " WORD M..",
+            Verb::Decode => " HEX",
         }
-        None
+    }
+
+    // What the command does.
+    pub fn purpose(self) -> &'static str {
+        match self {
+            Verb::Help => "lists the commands",
+            Verb::Listed =>
+                "chooses a layout by where each row ends and the cells of all rows in order",
+            Verb::Grid => "chooses a grid of A lines and B columns, each 2 to 11",
+            Verb::Kind =>
+                "chooses the kind of weights; another kind than before forgets costs and multipliers",
+            Verb::Greys => "sets the costs by greys, 0 for black to 255 for white, one a cell",
+            Verb::Costs =>
+                "sets the costs, one a cell, as -5 in kind plain and as -5,1 in kind paired",
+            Verb::Multipliers => "sets the multipliers, one an edge, written as costs are",
+            Verb::Choices => "answers the choice of each row and its sum",
+            Verb::Floor => "answers the slacks, the trial word and the floor",
+            Verb::Encode => "answers the ticket of a word, as 110, and of multipliers, one an edge",
+            Verb::Decode => "answers the word and the multipliers of a ticket",
+        }
+    }
+}
+
+// The form of the command.
+impl fmt::Display for Verb {
+    fn fmt<W: fmt::Write>(&self, f: &mut fmt::Formatter<W>) -> fmt::Result {
+        write!(f, "{}{}", self.word(), self.rest())
+    }
+}
+
+impl FromStr for Verb {
+    type Err = Mistake;
+
+    fn from_str(word: &str) -> Result<Verb, Mistake> {
+        ALL.into_iter()
+            .find(|verb| verb.word() == word)
+            .ok_or(Mistake::Unknown)
     }
 }

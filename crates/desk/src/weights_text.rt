@@ -1,4 +1,4 @@
-// Weights as text: a plain weight is a number, a paired one two numbers with a comma between.
+// Weights as words: a plain weight is a number, a paired one two numbers with a comma between.
 use crate::fault::Mistake;
 use crate::words;
 use crate::words::FromWord;
@@ -7,21 +7,16 @@ use tickets::TicketWeight;
 use weights::{GreyCost, Paired, Plain};
 
 // A kind of weight that is read and written.
-pub trait Shown: GreyCost + TicketWeight + FromWord + Clone {
-    fn show<F: fmt::Write>(self, f: &mut fmt::Formatter<F>) -> fmt::Result;
-}
+pub trait Shown: GreyCost + TicketWeight + FromWord + Clone + fmt::Display {}
+
+impl Shown for Plain {}
+
+impl Shown for Paired {}
 
 impl FromWord for Plain {
     fn from_word(word: &str) -> Result<Plain, Mistake> {
         let value = words::number(word).ok_or(Mistake::Plain)?;
         Ok(Plain::new(value))
-    }
-}
-
-impl Shown for Plain {
-    fn show<F: fmt::Write>(self, f: &mut fmt::Formatter<F>) -> fmt::Result {
-        let value = self.value();
-        write!(f, "{value}")
     }
 }
 
@@ -36,33 +31,14 @@ impl FromWord for Paired {
     }
 }
 
-impl Shown for Paired {
-    fn show<F: fmt::Write>(self, f: &mut fmt::Formatter<F>) -> fmt::Result {
-        let grey = self.grey();
-        let dark = self.dark();
-        write!(f, "{grey},{dark}")
-    }
-}
-
-// One weight.
-#[derive(Drop)]
-pub struct Single<W>(pub W);
-
-impl<W: Shown> fmt::Display for Single<W> {
-    fn fmt<F: fmt::Write>(&self, f: &mut fmt::Formatter<F>) -> fmt::Result {
-        self.0.show(f)
-    }
-}
-
 // A list of weights, each behind a blank.
 #[derive(Drop)]
 pub struct Spaced<'a, W>(pub &'a [W]);
 
-impl<W: Shown> fmt::Display for Spaced<'_, W> {
+impl<W: fmt::Display> fmt::Display for Spaced<'_, W> {
     fn fmt<F: fmt::Write>(&self, f: &mut fmt::Formatter<F>) -> fmt::Result {
         for weight in self.0 {
-            f.write_str(" ")?;
-            weight.show(f)?;
+            write!(f, " {weight}")?;
         }
         Ok(())
     }

@@ -1,10 +1,11 @@
 // Words that stand for values.
-ghost use Rattle.std.specs.Prelude.{◌≡◌, ◌-◌, ◌^◌, ◌≤◌, min, pos, IfSome, MatchOption, MatchResult};
+ghost use Rattle.std.specs.Prelude.{◌≡◌, ◌-◌, ◌^◌, ◌≤◌, min, pos, MatchOption, MatchResult};
 ghost use Rattle.desk.specs.Digits.{Digits, said};
 
 use crate::fault::{Fault, Mistake};
 use std::alloc::Global;
 
+// Not `FromStr`: a number of any length is taken, and `u16` and `u8` read themselves otherwise.
 pub trait FromWord: Drop {
     fn from_word(word: &str) -> Result<Self, Mistake>
     where
@@ -12,11 +13,10 @@ pub trait FromWord: Drop {
 }
 
 pub fn values<T: FromWord>(heap: Global, words: &[&str]) -> Result<Vec<T>, Fault> {
-    let mut all = Vec::new(heap);
-    for word in words {
-        all.push(T::from_word(word)?)?;
-    }
-    Ok(all)
+    words
+        .iter()
+        .map(|word| T::from_word(word).map_err(Fault::from))
+        .try_collect(heap)
 }
 
 // What decimal digits say, and u64::MAX where that is more.
@@ -47,9 +47,9 @@ fn size(bytes: &[u8]) -> Option<i64>
 
 // A number with or without a minus sign.
 pub fn number(word: &str) -> Option<i64> {
-    match word.as_bytes() {
-        [b'-', rest @ ..] => Some(-size(rest)?),
-        bytes => size(bytes),
+    match word.strip_prefix('-') {
+        Some(rest) => Some(-size(rest.as_bytes())?),
+        None => size(word.as_bytes()),
     }
 }
 
@@ -69,43 +69,16 @@ impl FromWord for u8 {
         ensures { MatchResult result (λ n. Digits word.now × (n ≡ said word.now)) (λ _. Digits word.now → 256 ≤ said word.now) }
     {
         let value = digits(word.as_bytes()).ok_or(Mistake::Grey)?;
-        u8::try_from(value).ok().ok_or(Mistake::Grey)
+        u8::try_from(value).map_err(|_| Mistake::Grey)
     }
 }
 
 // The cells of a word, a digit each.
 pub fn cells(heap: Global, word: &str) -> Result<Vec<u8>, Fault> {
-    let mut all = Vec::new(heap);
-    for byte in word.as_bytes() {
-        if !byte.is_ascii_digit() {
-            return Err(Fault::Mistake(Mistake::Word));
-        }
-        all.push(*byte - b'0')?;
-    }
-    Ok(all)
-}
-
-fn hex_digit(byte: u8) -> Option<u8>
-    ensures { IfSome result (λ d. d ≤ 15) }
-{
-    match byte {
-        b'0'..=b'9' => Some(byte - b'0'),
-        b'A'..=b'F' => Some(byte - b'A' + 10),
-        b'a'..=b'f' => Some(byte - b'a' + 10),
-        _ => None,
-    }
-}
-
-// The bytes that pairs of hexadecimal digits say.
-pub fn hex(heap: Global, word: &str) -> Result<Vec<u8>, Fault> {
-    let mut all = Vec::new(heap);
-    for pair in word.as_bytes().chunks(2) {
-        let [high, low] = pair else {
-            return Err(Fault::Mistake(Mistake::Hex));
-        };
-        let high = hex_digit(*high).ok_or(Mistake::Hex)?;
-        let low = hex_digit(*low).ok_or(Mistake::Hex)?;
-        all.push(16 * high + low)?;
-    }
-    Ok(all)
+    word.bytes()
+        .map(|byte| match byte {
+            b'0'..=b'9' => Ok(byte - b'0'),
+            _ => Err(Fault::from(Mistake::Word)),
+        })
+        .try_collect(heap)
 }

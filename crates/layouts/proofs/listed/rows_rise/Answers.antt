@@ -25,22 +25,8 @@ rise_step start ends entries i h u e =
     let p = and_parts (ltb start end) (rise_above end left) rises in
     let after = last_after end left p.1 in (ltb-true start end p.0, omega arith, p.1, last)
 
-pub offset_bounds-entries-start : goal.offset_bounds-entries-start
-offset_bounds-entries-start c =
-    let next = rise_step c.loop-end.start c.args.ends.now c.args.entries.now c.loop-end.end-index c.loop-end-test.true c.loop-end.invariant.1 c.loop-end.invariant.2 in
-    let fits = c.type_inv.ends c.loop-end.end-index in search rules
-
-pub slice_bounds-row_rises-count : goal.slice_bounds-row_rises-count
-slice_bounds-row_rises-count c = search (rules, rise_step)
-
-pub slice_bounds-row_rises-start : goal.slice_bounds-row_rises-start
-slice_bounds-row_rises-start c = search (rules, rise_step)
-
 pub slice_bounds-row_rises-end : goal.slice_bounds-row_rises-end
 slice_bounds-row_rises-end c = search (rules, rise_step)
-
-pub returns-then-not-row_rises : goal.returns-then-not-row_rises
-returns-then-not-row_rises c = search (rules, step)
 
 pub loop-end-preserved : goal.loop-end-preserved
 loop-end-preserved c = search (rules, step, rise_step)

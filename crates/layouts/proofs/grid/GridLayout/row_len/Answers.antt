@@ -11,8 +11,3 @@ pub returns-then-row-rows : goal.returns-then-row-rows
 returns-then-row-rows c =
     let g = c.args.self.now in let n = length_grid g.lines g.columns in
     search (rules, length_column)
-
-pub returns-else-row-rows : goal.returns-else-row-rows
-returns-else-row-rows c =
-    let g = c.args.self.now in let n = length_grid g.lines g.columns in
-    search rules
