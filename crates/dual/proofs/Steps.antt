@@ -19,21 +19,12 @@ look_yes t i o m e = grind arith
 pub look_no : (t : Bool) (i : ℕ) (o : Option Spot) (m : ℤ) → negative m ≡ not t → look t (i, o) m ≡ (i + 1, o)
 look_no t i o m e = grind arith
 
-pub look_all : (t : Bool) (ms : List ℤ) (i : ℕ) (o : Option Spot) → length ms ≤ i → fold (look t) (0, None) (take i ms) ≡ (i, o) → o ≡ nearest t ms
-look_all t ms i o l e = sym (ap (λ (s : ℕ × Option Spot). s.1) (rw (take_all i ms l) at e))
-
 module _ (t : Bool) (ms : List ℤ) (p : Spot) (e : nearest t ms ≡ Some p) where
   pub is_nearest : Nearest t ms (Some p)
   is_nearest = subst (Nearest t ms) e (found t ms)
 
-  pub nearest_within : p.0 < length ms
-  nearest_within = is_nearest.0
-
   pub nearest_sign : negative (get_or ms p.0 (pos 0)) ≡ t
   nearest_sign = is_nearest.1
-
-  pub nearest_size : nat_abs (get_or ms p.0 (pos 0)) ≡ p.1
-  nearest_size = is_nearest.2
 
 -- ---- the choice
 -- the place is that of a spot, and the spots are found within the row

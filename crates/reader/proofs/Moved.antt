@@ -53,14 +53,6 @@ module _ {W : Type 0} (k : Kind W) (step : ℕ) where
       let j = append_assoc (take i ms) (new ∷ []) (moved_edges k step (drop (i + 1) xs) (drop (i + 1) zs) (drop (i + 1) ms)) in
       cc
 
-  pub moves_done : (xs zs : List Bool) (ms : List W) (i : ℕ) → length xs ≤ i → length ms ≤ i → take i ms ++ moved_edges k step (drop i xs) zs (drop i ms) ≡ ms
-  moves_done xs zs ms i hx hm =
-      let a = drop_all i xs hx in
-      let b = drop_all i ms hm in
-      let c = take_all i ms hm in
-      let d = append-nil ms in
-      cc
-
 -- ---- the cells of a row in the copy of a layout
 edge_cells_append : (xs ys : List (List ℕ)) → edge_cells (xs ++ ys) ≡ edge_cells xs ++ edge_cells ys
 edge_cells_append [] ys = refl

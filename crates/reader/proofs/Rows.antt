@@ -9,7 +9,7 @@ use Rattle.std.specs.Option.{option_map}
 use Rattle.std.proofs.lemmas.Bool.{cases_eq, eq-eqb, ne_eqb}
 use Rattle.weights.specs.Kinds.{Kind, meanings}
 use Rattle.dual.specs.Choice.{negative, negatives, xor, odd, flipped, look, nearer, nearest}
-use Rattle.dual.proofs.Steps.{odd_more, get_or_negatives, look_yes, look_no, look_all}
+use Rattle.dual.proofs.Steps.{odd_more, get_or_negatives, look_yes, look_no}
 use Rattle.reader.specs.Spots.{spot, turned_at}
 
 module _ {W : Type 0} (k : Kind W) where
@@ -53,10 +53,6 @@ flipped_at (Some i) s place h = ⊎_elim
     grind arith)
     (cases_eq i place)
 
-pub length_flipped : (t : Option ℕ) (s : List Bool) → length (flipped t s) ≡ length s
-length_flipped None s = refl
-length_flipped (Some i) s = length-set s i (not (get_or s i false))
-
 module _ {W : Type 0} (k : Kind W) where
   -- one place of a row's choice
   pub takes_at : (t : Option ℕ) (ws : List W) (place : ℕ) (w : W) (b u : Bool) → place < length ws → w ≡ get_or ws place w → b ≡ negative (k.meaning w) → u ≡ turned_at t place
@@ -68,11 +64,6 @@ module _ {W : Type 0} (k : Kind W) where
       let g = get_or_negatives (meanings k ws) place in
       let at = meaning_at k ws place w h e in
       cc
-
-  -- past its end a row chooses nothing
-  pub takes_past : (t : Option ℕ) (ws : List W) (place : ℕ) → length ws ≤ place → false ≡ get_or (flipped t (negatives (meanings k ws))) place false
-  takes_past t ws place h =
-      sym (get_or_past (flipped t (negatives (meanings k ws))) place false (rw (length_flipped t (negatives (meanings k ws)), length-map (meanings k ws) negative, length-map ws k.meaning) h))
 
   -- the search goes on by one weight: of the sign asked for, or not
   pub nearest_takes : (t : Bool) (ws : List W) (i : ℕ) (w : W) (best r : Option (ℕ × W)) → i < length ws → w ≡ get_or ws i w → negative (k.meaning w) ≡ t
@@ -95,6 +86,3 @@ module _ {W : Type 0} (k : Kind W) where
       let no' = look_no t i (option_map (spot k) best) (k.meaning w) s in
       cc
 
-  pub nearest_done : (t : Bool) (ws : List W) (i : ℕ) (best : Option (ℕ × W)) → length ws ≤ i
-      → fold (look t) (0, None) (take i (meanings k ws)) ≡ (i, option_map (spot k) best) → option_map (spot k) best ≡ nearest t (meanings k ws)
-  nearest_done t ws i best h inv = look_all t (meanings k ws) i (option_map (spot k) best) (rw (length-map ws k.meaning) h) inv

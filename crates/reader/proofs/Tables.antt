@@ -14,12 +14,6 @@ edge_cells_push (x ∷ xs) row = ap (λ t. x ++ t) (edge_cells_push xs row) ∙ 
 pub edge_cells_more : (rows : List (List ℕ)) (r : ℕ) → r < length rows → edge_cells (take (r + 1) rows) ≡ edge_cells (take r rows) ++ row_at rows r
 edge_cells_more rows r h = ap edge_cells (take_more rows r [] h) ∙ edge_cells_push (take r rows) (row_at rows r)
 
--- one cell more of a row is copied
-pub copied_more : (cells before row : List ℕ) (p x : ℕ) → p < length row → x ≡ get_or row p 0 → cells ≡ before ++ take p row → cells ++ x ∷ [] ≡ before ++ take (p + 1) row
-copied_more cells before row p x l e inv =
-    ap (λ t. t ++ x ∷ []) inv ∙ append_assoc before (take p row) (x ∷ [])
-    ∙ ap (λ t. before ++ t) (ap (λ y. take p row ++ y ∷ []) e ∙ sym (take_more row p 0 l))
-
 -- the edges of a row whose cells were copied behind those of the rows before it
 pub span_of : (rows : List (List ℕ)) (r start end : ℕ) → r < length rows → start ≡ edges (take r rows) → end ≡ edges (take (r + 1) rows) → Span rows r start end
 span_of rows r start end h b n =

@@ -63,5 +63,3 @@ paired_exact a b r first second z h i e f j =
       small = omega (arith, g.small, d.small);
     }
 
-pub grey_uncut : (grey : ℕ) → grey < 256 → cut (2 ^ 30) (grey_cost grey) ≡ grey_cost grey
-grey_uncut grey h = uncut (2 ^ 30) (grey_cost grey) (omega (arith, ints))
