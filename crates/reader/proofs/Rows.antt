@@ -85,4 +85,3 @@ module _ {W : Type 0} (k : Kind W) where
       let at = meaning_at k ws i w h e in
       let no' = look_no t i (option_map (spot k) best) (k.meaning w) s in
       cc
-

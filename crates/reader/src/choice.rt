@@ -56,7 +56,8 @@ fn nearer_of<W: Weight>(
     }
 }
 
-// The place nearest to 0 among the negative multipliers, or among the others; absent where there is none.
+// The place nearest to 0 among the negative multipliers, or among the others; absent where there is none. It counts along,
+// since the place is the answer.
 fn nearest<W: Weight>(multipliers: &[W], below: bool) -> Option<(usize, W)>
     ensures value { option_map (spot W.kind) result ≡ nearest below (meanings W.kind multipliers.now) }
     ensures sign { OfSign W.kind below result }

@@ -9,7 +9,7 @@ pub struct Reading<L, W> {
     pub(crate) ceiling: W,
 }
 
-// Floor and ceiling together as a pair, the rounds made, and whether the two are equal.
+// Floor and ceiling together as a pair, the rounds made, and whether the two are equal, which weights themselves don't show.
 #[derive(Clone, Copy, Drop)]
 pub struct Verdict<W> {
     pub bounds: (W, W),

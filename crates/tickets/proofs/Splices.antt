@@ -7,7 +7,6 @@ use Rattle.std.proofs.lemmas.List.FromFn.{length-map-range_with_len}
 use Rattle.tickets.specs.Packs.{splice, octet, packed, packed_length}
 
 module _ {A : Type 0} where
-
   pub splice_join : (xs bs cs : List A) (a n : ℕ) → n ≡ a + length bs → n ≤ length xs → splice (splice xs a bs) n cs ≡ splice xs a (bs ++ cs)
   splice_join xs bs cs a n e h =
       let front = take a xs ++ bs in

@@ -28,7 +28,7 @@ pub use reading::read;
 pub use words::{is_word, unpack};
 pub use writer::{ticket_len, write};
 
-// A kind of weights that goes on tickets. Kind byte and width are fixed for the kind.
+// A kind of weights that goes on tickets. Kind byte and width are fixed for the kind; the byte is no enum, since kinds are open.
 pub trait TicketWeight: Weight {
     // The bytes of a weight, as many for each.
     type Bytes: AsSlice<u8> + Copy;

@@ -8,7 +8,7 @@ use crate::head::Head;
 use crate::marks::{HEAD_MARK, WORD_MARK};
 use crate::words::{is_clear, packed_len};
 
-// The caller's bytes, and the place of the next record.
+// The caller's bytes, and the place of the next record: the project's form for a reader that copies nothing.
 #[derive(Drop)]
 pub struct TicketReader<'a> {
     bytes: &'a [u8],

@@ -62,4 +62,3 @@ paired_exact a b r first second z h i e f j =
       value = λ l. ap (λ v. joined v r.dark) (g.exact (omega arith)) ∙ ap (joined first) (d.exact (omega arith)) ∙ j;
       small = omega (arith, g.small, d.small);
     }
-

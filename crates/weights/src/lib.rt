@@ -39,7 +39,7 @@ pub trait Weight: Copy {
     fn below(self, other: Self) -> bool
         ensures { result ≡ int_lt (kind.meaning self) (kind.meaning other) };
 
-    // This weight after a step up or down.
+    // This weight after a step up or down. The direction is a flag, since it is a bit of a word.
     fn moved(self, step: u32, up: bool) -> Self
         ensures end { result ≡ kind.moved self step up };
 
