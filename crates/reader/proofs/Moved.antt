@@ -1,8 +1,8 @@
 -- One turn more of the passes over the edges of a round.
 use Rattle.std.specs.Prelude.{slice_range}
-use Rattle.std.proofs.Common.{◌≡◌, ℕ, zero, suc, ◌+◌, ◌-◌, ◌<◌, ◌≤◌, Bool, true, false, not, List, [], ◌∷◌, ◌++◌, length, get_or, take, drop, set, sym, refl, ap, ◌∙◌, append_assoc, arith, drop-set-lt}
+use Rattle.std.proofs.Common.{◌≡◌, ℕ, zero, suc, ◌+◌, ◌-◌, ◌<◌, Bool, true, false, not, List, [], ◌∷◌, ◌++◌, length, get_or, take, drop, set, sym, refl, ap, ◌∙◌, append_assoc, arith, drop-set-lt}
 use mathlib.Core.Bool.{beq}
-use Rattle.std.proofs.lemmas.List.{take_at, drop_at, take-append-drop, take_more_set, drop_more, drop_all, take_all, drop-take, map_more, get_or-map, append-nil}
+use Rattle.std.proofs.lemmas.List.{take_at, drop_at, take-append-drop, take_more_set, drop_more, drop-take, map_more, get_or-map}
 use Rattle.layouts.specs.Plans.{edge_cells, edges, row_at}
 use Rattle.weights.specs.Kinds.{Kind}
 use Rattle.dual.specs.Choice.{xor, odd}

@@ -1,14 +1,14 @@
 -- Steps of the loops over one row's weights, by their meanings.
-use Rattle.std.proofs.Common.{◌≡◌, ℕ, ◌+◌, ◌<◌, ◌≤◌, Bool, true, false, not, leb, List, length, get_or, take, set, ℤ, pos, negsuc, ◌-ℤ◌, nat_abs, Some, None, fold, Option, sym, refl, ap, ◌∙◌, ⊎_elim, arith}
+use Rattle.std.proofs.Common.{◌≡◌, ℕ, ◌+◌, ◌<◌, Bool, true, false, not, leb, List, length, get_or, take, set, ℤ, pos, negsuc, ◌-ℤ◌, nat_abs, Some, None, fold, Option, sym, ap, ◌∙◌, ⊎_elim, arith}
 use mathlib.Core.Bool.{beq}
 use lib.Signed.{lt_z}
-use Rattle.std.proofs.lemmas.List.{length-map, get_or-map, get_or_past, get_or-set_same, get_or-set_other, length-set}
+use Rattle.std.proofs.lemmas.List.{length-map, get_or-map, get_or-set_same, get_or-set_other}
 use Rattle.std.proofs.lemmas.Int.{ints}
 use Rattle.std.proofs.lemmas.List.Sums.{fold_more}
 use Rattle.std.specs.Option.{option_map}
 use Rattle.std.proofs.lemmas.Bool.{cases_eq, eq-eqb, ne_eqb}
 use Rattle.weights.specs.Kinds.{Kind, meanings}
-use Rattle.dual.specs.Choice.{negative, negatives, xor, odd, flipped, look, nearer, nearest}
+use Rattle.dual.specs.Choice.{negative, negatives, xor, odd, flipped, look, nearer}
 use Rattle.dual.proofs.Steps.{odd_more, get_or_negatives, look_yes, look_no}
 use Rattle.reader.specs.Spots.{spot, turned_at}
 

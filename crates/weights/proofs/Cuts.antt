@@ -1,10 +1,10 @@
 -- A sum that stays within the limit is not cut, and a cut never makes a part larger.
-use Rattle.std.proofs.Common.{◌≡◌, ℕ, ◌+◌, ◌^◌, ◌<◌, ◌≤◌, ℤ, ◌+ℤ◌, ◌-ℤ◌, nat_abs, sym, ap, ◌∙◌, subst, arith}
+use Rattle.std.proofs.Common.{◌≡◌, ℕ, ◌+◌, ◌^◌, ◌≤◌, ℤ, ◌+ℤ◌, ◌-ℤ◌, nat_abs, sym, ap, ◌∙◌, subst, arith}
 use denote.Struct.Props.{props}
 use Rattle.std.proofs.lemmas.Int.{ints, clamps}
 use Rattle.weights.specs.Kinds.{Exact}
 use Rattle.weights.specs.Paireds.{paired_kind}
-use Rattle.weights.specs.Parts.{cut, joined, grey_cost, Kept}
+use Rattle.weights.specs.Parts.{cut, joined, Kept}
 use Rattle.weights.specs.Plains.{plain_kind, cut_within}
 use Rattle.weights.specs.declared.paired.Paired.{Paired}
 use Rattle.weights.specs.declared.plain.Plain.{Plain}
