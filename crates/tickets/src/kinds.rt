@@ -30,7 +30,9 @@ impl TicketWeight for Plain {
         4
     }
 
-    fn bytes(self) -> [u8; 4] {
+    fn bytes(self) -> [u8; 4]
+        ensures { result ≡ plain_bytes self }
+    {
         self.value().to_be_bytes()
     }
 
@@ -57,7 +59,9 @@ impl TicketWeight for Paired {
         8
     }
 
-    fn bytes(self) -> [u8; 8] {
+    fn bytes(self) -> [u8; 8]
+        ensures { result ≡ paired_bytes self }
+    {
         let mut both = [0; 8];
         both[0..4].copy_from_slice(&self.grey().to_be_bytes());
         both[4..8].copy_from_slice(&self.dark().to_be_bytes());
