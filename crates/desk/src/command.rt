@@ -49,7 +49,7 @@ pub fn parse<'a>(heap: Global, words: &'a [&'a str]) -> Result<Command<'a>, Faul
     continued(heap, verb, rest)
 }
 
-// The command that a verb and the words after it stand for.
+// The command that a verb and the words after it stand for. A match: a table would hold function pointers.
 fn continued<'a>(heap: Global, verb: Verb, rest: &'a [&'a str]) -> Result<Command<'a>, Fault> {
     match verb {
         Verb::Listed => Ok(Command::Listed(listing(heap, rest)?)),

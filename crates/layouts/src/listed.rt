@@ -119,6 +119,7 @@ impl<'a> Listed<'a> {
     }
 }
 
+// Counts are narrowed by `as`: the limits of a layout show that they fit, and a failure would have no answer.
 impl Layout for Listed<'_> {
     ghost plan = { λ s. listed_plan s.cells s.ends.now s.entries.now s.ok };
 

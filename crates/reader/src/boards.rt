@@ -1,4 +1,4 @@
-// The checks of a caller's boards.
+// The checks of a caller's boards, which are slices that go to each call.
 ghost use Rattle.std.specs.Prelude.{◌≡◌, not, length};
 ghost use Rattle.refusals.specs.Numbers.{number_of};
 ghost use Rattle.model.specs.Calls.{misfit, begin_refusal, shape_refusal};

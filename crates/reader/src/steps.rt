@@ -31,6 +31,7 @@ impl Step {
     }
 }
 
+// An enum and no closure, since a rule is made, kept and compared.
 #[derive(Clone, Copy, PartialEq, Eq, Debug)]
 pub enum StepRule {
     // the same step in every round

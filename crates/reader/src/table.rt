@@ -44,6 +44,7 @@ fn copy_row<L: Layout>(layout: &L, row: RowNo, cells: &mut ArrayVec<u8, 1024>)
     let len = layout.row_len(row).unwrap();
     for place in 0..len {
         let cell = layout.cell(row, place).unwrap();
+        // narrowed by `as`: a layout has at most 128 cells
         cells.push(cell.0 as u8);
     }
 }

@@ -13,6 +13,7 @@ pub(crate) fn cut(value: i64, limit: u32) -> i32
     ensures value { result ≡ cut limit value }
     ensures bound { unsigned_abs result ≤ limit }
 {
+    // narrowed by `as`, which the limit shows to fit
     let most = i64::from(limit);
     value.clamp(-most, most) as i32
 }
