@@ -1,4 +1,4 @@
-// The texts that answer commands.
+// The texts that answer commands. The heap goes along to all that allocates, as allocators do.
 use crate::weights_text::{Shown, Spaced};
 use layouts::{CellNo, Layout, RowNo};
 use std::alloc::{AllocError, Global};

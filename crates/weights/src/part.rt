@@ -23,6 +23,7 @@ pub(crate) fn moved(a: i32, step: u32, up: bool) -> i32
     ensures bound { unsigned_abs result ≤ 2 ^ 18 }
 {
     let by = i64::from(step);
+    // Two sums: with the sign chosen first, the fact is lost where the branches join.
     let to = if up {
         i64::from(a) + by
     } else {
