@@ -35,9 +35,12 @@ def functions():
             if not m:
                 i += 1
                 continue
-            j = i
-            while j < len(lines) - 1 and not lines[j].startswith(m[1] + '}') \
-                    and not lines[j].rstrip().endswith('{}') and not lines[j].rstrip().endswith(';'):
+            j, begun = i, False
+            while j < len(lines) - 1:
+                line = lines[j].rstrip()
+                if line.startswith(m[1] + '}') or line.endswith('{}') or (line.endswith(';') and not begun):
+                    break
+                begun = begun or line == m[1] + '{' or (line.endswith('{') and not re.match(r'\s*(requires|ensures)\b', line))
                 j += 1
             part = lines[i:j + 1]
             clauses = [x.strip() for x in part if re.match(r'\s*(requires|ensures)\b', x)]

@@ -57,7 +57,7 @@ impl Desk {
         self.carry_out(command)
     }
 
-    // Changes nothing where it answers a fault.
+    // Changes nothing where it answers a fault. A match: a table would hold function pointers.
     fn carry_out(&mut self, command: Command) -> Result<String, Fault> {
         match command {
             Command::Help => {

@@ -15,6 +15,7 @@ fn checked(cells: u16, ends: &[u16], entries: &[u16]) -> Result<(), u8> {
 }
 
 // The numbers 0 to 127, over and over, each raised by `from`.
+// `as`: there is no `From` of a place for it.
 fn cycle(from: u8) -> [u16; 1025] {
     array::from_fn(|i| u16::from(from) + (i % 128) as u16)
 }

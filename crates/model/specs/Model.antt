@@ -28,10 +28,11 @@ met m = equal m.floor m.ceiling
 abbrev pub raised_to : {W : Type 0} → ℤ → List W → Model W → Model W
 raised_to z ms m = cond (int_lt m.floor z) (record m { floor = z; kept = ms }) m
 
--- a codeword of the cost z, where that is below the ceiling: it becomes the kept word, and z the ceiling
+-- the kept word x, and z as the ceiling
 abbrev pub with_word : {W : Type 0} → ℤ → List ℕ → Model W → Model W
 with_word z x m = record m { ceiling = z; word = x }
 
+-- a codeword of the cost z, where that is below the ceiling: it becomes the kept word, and z the ceiling
 abbrev pub lowered_to : {W : Type 0} → ℤ → List ℕ → Model W → Model W
 lowered_to z x m = cond (int_lt z m.ceiling) (with_word z x m) m
 

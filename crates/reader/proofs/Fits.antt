@@ -1,5 +1,5 @@
 -- What the checks of boards leave: lengths, sizes, and cells that exist.
-use Rattle.std.proofs.Common.{◌≡◌, ℕ, suc, ◌-◌, ◌^◌, ◌<◌, ◌≤◌, true, false, eqb, List, [], ◌∷◌, length, get_or, refl, ap, subst, ⊎_elim, arith}
+use Rattle.std.proofs.Common.{◌≡◌, ℕ, suc, ◌-◌, ◌^◌, ◌<◌, ◌≤◌, true, false, eqb, List, [], ◌∷◌, length, get_or, refl, ⊎_elim, arith}
 use Rattle.std.proofs.lemmas.List.{get_or_append_left, get_or-append_right, length-append}
 use Rattle.std.proofs.lemmas.Bool.{cases_lt, eqb-true}
 use Rattle.layouts.specs.Plans.{Plan, edges, edge_cells, row_at}
@@ -23,11 +23,9 @@ edge_below n (row ∷ rows) f k h =
     omega arith)
     (cases_lt k (length row))
 
-pub cells_below : (p : Plan) (cells : List ℕ) (n : ℕ) → cells ≡ edge_cells p.rows → n ≡ p.cells → (k : ℕ) → k < length cells → get_or cells k 0 < n
-cells_below p cells n e l k h =
-    let b = edge_below p.cells p.rows p.below k (subst (λ xs. k < length xs) e h) in
-    let a : get_or cells k 0 ≡ get_or (edge_cells p.rows) k 0 = ap (λ xs. get_or xs k 0) e in
-    omega arith
+-- the cell of an edge has its place in a list of one entry a cell
+pub cell_inside : (p : Plan) (i e n : ℕ) → i < edges p.rows → e ≡ get_or (edge_cells p.rows) i 0 → n ≡ p.cells → e < n
+cell_inside p i e n h q l = let b = edge_below p.cells p.rows p.below i h in omega arith
 
 module _ {W : Type 0} (k : Kind W) where
   -- all costs together

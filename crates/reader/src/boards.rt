@@ -89,11 +89,8 @@ impl<W: Weight> Boards<'_, W> {
     pub(crate) fn check<L: Layout>(&self, layout: &L) -> Result<(), Refusal>
         ensures { number_of result ≡ shape_refusal W.kind (L.plan layout.now) self.now.costs.now self.now.carried.now self.now.kept.now self.now.trial.now self.now.word.now }
     {
-        if !self.are_fitting(layout) {
-            return Err(Refusal::BoardLength);
-        }
-        if any_beyond(self.costs, COST_SIZE)
-            || any_beyond(self.carried, MULTIPLIER_SIZE)
+        self.check_new(layout)?;
+        if any_beyond(self.carried, MULTIPLIER_SIZE)
             || any_beyond(self.kept, MULTIPLIER_SIZE)
             || !is_word(self.trial)
             || !is_word(self.word)

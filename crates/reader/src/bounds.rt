@@ -1,7 +1,7 @@
 // The floor of a set of multipliers: no codeword costs less.
 ghost use Rattle.std.specs.Prelude.{◌≡◌, ◌+◌, ◌^◌, ◌≤◌, length, IfOk, OnErr, OnOk};
 ghost use Rattle.refusals.specs.Numbers.{number_of};
-ghost use Rattle.layouts.specs.Plans.{edges, edge_cells};
+ghost use Rattle.layouts.specs.Plans.{edge_cells};
 ghost use Rattle.weights.specs.Kinds.{meanings};
 ghost use Rattle.dual.specs.Bound.{slacks, choices, trial_word, floor};
 ghost use Rattle.model.specs.Words.{bytes};
@@ -9,7 +9,7 @@ ghost use Rattle.reader.specs.Boards.{floor_refusal, Fit};
 ghost use Rattle.reader.specs.Sizes.{total_size};
 
 use crate::boards::check_floor;
-use crate::passes::{mark_negatives, slacken, sum_marked};
+use crate::passes::{mark_negatives, sum_marked};
 use crate::table::Table;
 use layouts::Layout;
 use refusals::Refusal;
@@ -32,7 +32,7 @@ impl<L: Layout, W: Weight> Priced<'_, L, W> {
         ensures size { total_size W.kind out.new ≤ 2 ^ 23 + 2 ^ 28 }
     {
         out.copy_from_slice(self.costs);
-        slacken(self.table.edge_cells(), self.multipliers, out);
+        self.table.slacken(self.multipliers, out);
     }
 
     // The floor, with the trial word and the choices of all rows. Every sum on the way is exact: the sizes of all slacks add
@@ -75,7 +75,7 @@ pub fn floor<L: Layout, W: Weight>(
         costs,
         multipliers,
     };
-    // Memory of a fixed size, since there is no heap.
+    // All of it is overwritten, so that the front of an array is as plain as a vector.
     let mut marks = [0u8; 1024];
     Ok(priced.bound(trial, &mut marks[0..multipliers.len()]))
 }

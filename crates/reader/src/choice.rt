@@ -38,7 +38,8 @@ fn is_nearer<W: Weight>(m: W, old: W, below: bool) -> bool
     if below { old.below(m) } else { m.below(old) }
 }
 
-// Of the spot so far and a new one of the same sign, the one nearer to 0; the earlier one at equality.
+// Of the spot so far and a new one of the same sign, the one nearer to 0; the earlier one at equality. Which sign it is comes
+// with the call, so that a type of its own could not promise it.
 fn nearer_of<W: Weight>(
     best: Option<(usize, W)>,
     place: usize,
@@ -122,7 +123,10 @@ impl RowChoice {
     pub fn takes<W: Weight>(self, multipliers: &[W], place: usize) -> bool
         ensures { result ≡ slice_index_or (flipped self.toggled (negatives (meanings W.kind multipliers.now))) place false }
     {
-        place < multipliers.len() && is_negative(multipliers[place]) != self.turns(place)
+        match multipliers.get(place) {
+            Some(m) => is_negative(*m) != self.turns(place),
+            None => false,
+        }
     }
 
     fn turns(self, place: usize) -> bool

@@ -1,9 +1,8 @@
-// The passes of a round beside those of the floor: the parity of dark cells, and the moves of the multipliers.
-// Boards are checked before.
+// What a round asks of one row's cells and of one edge. Boards are checked before.
 ghost use Rattle.std.specs.Prelude.{◌≡◌, ℕ, ◌<◌, length, replicate, slice_index};
 ghost use Rattle.dual.specs.Choice.{odd};
 ghost use Rattle.dual.specs.Bound.{at};
-ghost use Rattle.model.specs.Moves.{moved_edge, moved_edges};
+ghost use Rattle.model.specs.Moves.{moved_edge};
 ghost use Rattle.model.specs.Words.{bits};
 
 use weights::Weight;
@@ -21,33 +20,13 @@ pub(crate) fn odd_dark(cells: &[u8], word: &[u8]) -> bool
 }
 
 // The multiplier of one edge after a step: it moves where the word's bit and the row's choice, two flags, differ, up for bit 0.
-fn moved_edge<W: Weight>(multiplier: W, step: u32, dark: bool, chosen: bool) -> W
+pub(crate) fn moved_edge<W: Weight>(multiplier: W, step: u32, dark: bool, chosen: bool) -> W
     ensures { result ≡ moved_edge W.kind step dark chosen multiplier }
 {
     if dark != chosen {
         multiplier.moved(step, !dark)
     } else {
         multiplier
-    }
-}
-
-// The multipliers of all edges after a step. The marks are the choices of the rows, so no row's move changes another's choice.
-pub(crate) fn move_edges<W: Weight>(
-    cells: &[u8],
-    word: &[u8],
-    marks: &[u8],
-    step: u32,
-    multipliers: &mut [W],
-)
-    requires inside { (k : ℕ) → k < length cells.now → slice_index cells.now k < length word.now }
-    requires marks { length marks.now ≡ length cells.now }
-    requires multipliers { length multipliers.old ≡ length cells.now }
-    ensures { multipliers.new ≡ moved_edges W.kind step (at (bits word.now) cells.now) (bits marks.now) multipliers.old }
-{
-    // The other lists by place: of what `iter_mut` lends under `zip` a proof knows nothing afterwards.
-    for (i, multiplier) in multipliers.iter_mut().enumerate() {
-        let dark = word[usize::from(cells[i])] != 0;
-        *multiplier = moved_edge(*multiplier, step, dark, marks[i] != 0);
     }
 }
 

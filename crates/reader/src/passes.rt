@@ -1,30 +1,12 @@
-// The passes over cells and edges from which the floor and a round are made. Boards are checked before.
-ghost use Rattle.std.specs.Prelude.{◌≡◌, ℕ, ◌+◌, ◌^◌, ◌<◌, ◌≤◌, length, slice_index};
+// The passes over lists of weights from which the floor and a round are made. Boards are checked before.
+ghost use Rattle.std.specs.Prelude.{◌≡◌, ◌^◌, ◌≤◌, length};
 ghost use Rattle.weights.specs.Kinds.{meanings};
 ghost use Rattle.dual.specs.Choice.{negatives, odd, pick, chosen};
-ghost use Rattle.dual.specs.Bound.{slacks};
 ghost use Rattle.model.specs.Words.{bytes, bits};
-ghost use Rattle.weights.specs.Sizes.{Within};
 ghost use Rattle.reader.specs.Sizes.{total_size};
 
 use crate::choice::{is_negative, turned_place};
 use weights::Weight;
-
-// Each edge takes its multiplier from the entry of its cell: what is left of the costs are the slacks.
-pub(crate) fn slacken<W: Weight>(cells: &[u8], multipliers: &[W], left: &mut [W])
-    requires same { length multipliers.now ≡ length cells.now }
-    requires few { length cells.now ≤ 1024 }
-    requires inside { (k : ℕ) → k < length cells.now → slice_index cells.now k < length left.old }
-    requires small { Within W.kind (2 ^ 18) multipliers.now }
-    requires costs { total_size W.kind left.old ≤ 2 ^ 23 }
-    ensures value { meanings W.kind left.new ≡ slacks cells.now (meanings W.kind multipliers.now) (meanings W.kind left.old) }
-    ensures size { total_size W.kind left.new ≤ 2 ^ 23 + 2 ^ 28 }
-{
-    for (cell, multiplier) in cells.iter().zip(multipliers) {
-        let cell = usize::from(*cell);
-        left[cell] = left[cell].minus(*multiplier);
-    }
-}
 
 // Marks the negative weights, and says whether there is an odd number of them.
 pub(crate) fn mark_negatives<W: Weight>(list: &[W], marks: &mut [u8]) -> bool

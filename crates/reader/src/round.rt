@@ -1,7 +1,5 @@
 // One round of a reading, and the steps that it shares with other calls. Boards are checked before, once a call.
 ghost use Rattle.std.specs.Prelude.{◌≡◌, ℕ, ◌<◌, List, length};
-ghost use Rattle.layouts.specs.Plans.{edges};
-ghost use Rattle.model.specs.Calls.{shape_refusal};
 ghost use Rattle.model.specs.Model.{equal, raised_to, lowered_to};
 ghost use Rattle.reader.specs.Calls.{boards, state, view};
 

@@ -17,7 +17,7 @@ impl Step {
         ensures number { number_of result ≡ step_refusal size }
         ensures size { IfOk result (λ s. s.size ≡ size) }
     {
-        if size < 1 || size > 4096 {
+        if !(1..=4096).contains(&size) {
             return Err(Refusal::StepRange);
         }
         Ok(Step { size })

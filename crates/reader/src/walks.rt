@@ -1,12 +1,14 @@
 // The walks over all rows of a copied layout.
-ghost use Rattle.std.specs.Prelude.{◌≡◌, ◌^◌, ◌≤◌, length};
-ghost use Rattle.layouts.specs.Plans.{edges};
+ghost use Rattle.std.specs.Prelude.{◌≡◌, ◌+◌, ◌^◌, ◌≤◌, length};
+ghost use Rattle.layouts.specs.Plans.{edges, edge_cells};
 ghost use Rattle.weights.specs.Kinds.{meanings};
-ghost use Rattle.dual.specs.Bound.{choices, row_leasts, codeword};
+ghost use Rattle.weights.specs.Sizes.{Within};
+ghost use Rattle.dual.specs.Bound.{at, slacks, choices, row_leasts, codeword};
+ghost use Rattle.model.specs.Moves.{moved_edges};
 ghost use Rattle.model.specs.Words.{bytes, bits};
 ghost use Rattle.reader.specs.Sizes.{total_size};
 
-use crate::edges::odd_dark;
+use crate::edges::{moved_edge, odd_dark};
 use crate::passes::{mark_choice, sum_marked};
 use crate::table::Table;
 use layouts::Layout;
@@ -49,5 +51,41 @@ impl<L: Layout> Table<'_, L> {
             }
         }
         true
+    }
+
+    // Each edge takes its multiplier from the entry of its cell: what is left of the costs are the slacks.
+    pub(crate) fn slacken<W: Weight>(&self, multipliers: &[W], left: &mut [W])
+        requires multipliers { length multipliers.now ≡ edges (L.plan self.now.layout.now).rows }
+        requires left { length left.old ≡ (L.plan self.now.layout.now).cells }
+        requires small { Within W.kind (2 ^ 18) multipliers.now }
+        requires costs { total_size W.kind left.old ≤ 2 ^ 23 }
+        ensures value { meanings W.kind left.new ≡ slacks (edge_cells (L.plan self.now.layout.now).rows) (meanings W.kind multipliers.now) (meanings W.kind left.old) }
+        ensures size { total_size W.kind left.new ≤ 2 ^ 23 + 2 ^ 28 }
+    {
+        for (cell, multiplier) in self.edge_cells().iter().zip(multipliers) {
+            let cell = usize::from(*cell);
+            left[cell] = left[cell].minus(*multiplier);
+        }
+    }
+
+    // The multipliers of all edges after a step. The marks are the choices of the rows, so no row's move changes another's choice.
+    pub(crate) fn move_edges<W: Weight>(
+        &self,
+        word: &[u8],
+        marks: &[u8],
+        step: u32,
+        multipliers: &mut [W],
+    )
+        requires word { length word.now ≡ (L.plan self.now.layout.now).cells }
+        requires marks { length marks.now ≡ edges (L.plan self.now.layout.now).rows }
+        requires multipliers { length multipliers.old ≡ edges (L.plan self.now.layout.now).rows }
+        ensures { multipliers.new ≡ moved_edges W.kind step (at (bits word.now) (edge_cells (L.plan self.now.layout.now).rows)) (bits marks.now) multipliers.old }
+    {
+        let cells = self.edge_cells();
+        // The other lists by place: of what `iter_mut` lends under `zip` a proof knows nothing afterwards.
+        for (i, multiplier) in multipliers.iter_mut().enumerate() {
+            let dark = word[usize::from(cells[i])] != 0;
+            *multiplier = moved_edge(*multiplier, step, dark, marks[i] != 0);
+        }
     }
 }

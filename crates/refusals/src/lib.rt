@@ -6,7 +6,7 @@ ghost use Rattle.refusals.specs.Numbers.{number};
 
 use thiserror::Error;
 
-// Each sentence says what was to be kept.
+// Each case has the sentence that is printed of it.
 #[derive(Clone, Copy, PartialEq, Eq, Debug, Error)]
 pub enum Refusal {
     #[error("refused {}: a layout has 1 to 128 cells, at most 96 rows and at most 1,024 cell entries", self.number())]

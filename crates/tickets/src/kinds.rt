@@ -1,5 +1,5 @@
 // Our own kinds on tickets: each part is a signed number of four bytes, two's complement, high byte first.
-ghost use Rattle.std.specs.Prelude.{◌≡◌, ◌==◌, ◌++◌, cond, length, take, replicate, Some, None};
+ghost use Rattle.std.specs.Prelude.{◌≡◌, ◌==◌, cond, length, Some, None};
 ghost use Rattle.tickets.specs.Parts.{part_of};
 ghost use Rattle.tickets.specs.Kinds.{plain_codec, plain_bytes, paired_codec, paired_bytes};
 ghost use Rattle.std.proofs.Common.{rules};

@@ -50,7 +50,7 @@ fn first_multiplier<W: TicketWeight>(records: &[u8]) -> Option<(W, &[u8])>
 }
 
 // Reads the multipliers of a part that has one for each place of the work list. A zip with the part's chunks would be
-// shorter, but a proof knows nothing of what is written through one.
+// shorter, but a proof knows nothing of what is written through one: what is left of the part goes along.
 pub(crate) fn read_multipliers<W: TicketWeight>(part: &[u8], work: &mut [W])
     requires { is_some (multipliers_in W.Weight.kind W.codec (length work.old) part.now) ≡ true }
     ensures { Some work.new ≡ multipliers_in W.Weight.kind W.codec (length work.old) part.now }

@@ -75,11 +75,12 @@ fn cut_short_and_drawn_out(rt: HostRuntime) {
     }
 }
 
-// Numbers from -2^18 at 0 to 2^18 at 1,023.
+// Numbers from -2^18 at 0 to 2^18 at 1,023. Here and below `as` takes small places to a type that has no `From` of them.
 fn number(i: usize) -> i64 {
     i.min(1023) as i64 * 524_288 / 1023 - 262_144
 }
 
+// Two weights are the same where neither is below the other: the interface has no `==`.
 fn is_same<W: Weight>(a: &[W], b: &[W]) -> bool {
     a.len() == b.len() && a.iter().zip(b).all(|(x, y)| !x.below(*y) && !y.below(*x))
 }

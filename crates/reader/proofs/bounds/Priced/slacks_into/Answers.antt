@@ -1,12 +1,7 @@
-use Rattle.std.proofs.Common.{◌^◌, ◌≤◌, sym, ap, ◌∙◌, subst, length}
+use Rattle.std.proofs.Common.{◌^◌, ◌≤◌, sym, subst}
 use Rattle.reader.specs.Sizes.{total_size}
-use Rattle.reader.proofs.Fits.{cells_below, costs_total}
+use Rattle.reader.proofs.Fits.{costs_total}
 use Rattle.reader.proofs.bounds.Priced.slacks_into.Goals as goal
-
-pub slacken-requires-clause-inside : goal.slacken-requires-clause-inside
-slacken-requires-clause-inside g c =
-    let p = g.L.Layout.plan c.args.self.now.table.now.layout.now in
-    cells_below p _ _ c.edge_cells.ensures (ap length c.copy_from_slice.ensures.after ∙ c.args.self.now.fit.costs_long)
 
 pub slacken-requires-clause-costs : goal.slacken-requires-clause-costs
 slacken-requires-clause-costs g c =
