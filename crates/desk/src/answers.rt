@@ -75,6 +75,7 @@ struct Rows<'a, L, W> {
 impl<L: Layout, W: Shown> fmt::Display for Rows<'_, L, W> {
     fn fmt<F: fmt::Write>(&self, f: &mut fmt::Formatter<F>) -> fmt::Result {
         let layout = self.layout;
+        // cut off row by row: `next` on another iterator inside the loop would leave its end open
         let mut marks = self.marks;
         for (row, sum) in (0..layout.rows()).zip(self.sums) {
             let len = usize::from(layout.row_len(RowNo(row)).unwrap_or(0));

@@ -1,4 +1,4 @@
-// The floor of a set of multipliers: no codeword costs less.
+// The floor of a set of multipliers: no codeword costs less. Boards go to each public call as slices.
 ghost use Rattle.std.specs.Prelude.{◌≡◌, ◌+◌, ◌^◌, ◌≤◌, length, IfOk, OnErr, OnOk};
 ghost use Rattle.refusals.specs.Numbers.{number_of};
 ghost use Rattle.layouts.specs.Plans.{edge_cells};

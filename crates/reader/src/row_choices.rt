@@ -1,4 +1,4 @@
-// The choices of all rows of a layout, with the least sum of each.
+// The choices of all rows of a layout, with the least sum of each. Boards go to each public call as slices.
 ghost use Rattle.std.specs.Prelude.{◌≡◌, length, OnErr, OnOk};
 ghost use Rattle.refusals.specs.Numbers.{number_of};
 ghost use Rattle.weights.specs.Kinds.{meanings};

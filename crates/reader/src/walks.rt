@@ -1,4 +1,5 @@
-// The walks over all rows of a copied layout.
+// The walks over all rows and edges of a copied layout. That a list has an entry an edge or a cell ties it to the table, an
+// argument of the same call, and so stands in each contract and in no type.
 ghost use Rattle.std.specs.Prelude.{◌≡◌, ◌+◌, ◌^◌, ◌≤◌, length};
 ghost use Rattle.layouts.specs.Plans.{edges, edge_cells};
 ghost use Rattle.weights.specs.Kinds.{meanings};
