@@ -6,3 +6,4 @@ pub mod Spans
 pub mod Fits
 pub mod Floors
 mod Moved
+pub mod Rounds

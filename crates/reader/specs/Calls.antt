@@ -8,6 +8,7 @@ use Rattle.tickets.specs.Codecs.{Codec}
 use Rattle.model.specs.Model.{Model, equal, fresh}
 use Rattle.model.specs.Calls.{begin_refusal, run_refusal, run_after, run_answer, offer_refusal, offer_after, propose_refusal, propose_after, take_refusal, take_after, work_after, ticket_of, write_refusal}
 use Rattle.reader.specs.Rules.{step_of}
+use Rattle.reader.specs.declared.reading.Progress.{Progress}
 use Rattle.reader.specs.declared.reading.Reading.{Reading}
 use Rattle.reader.specs.declared.reading.Verdict.{Verdict}
 use Rattle.reader.specs.declared.steps.StepRule.{StepRule}
@@ -40,6 +41,19 @@ view k s =
       kept = s.boards.kept;
       trial = s.boards.trial;
       word = s.boards.word;
+    }
+
+-- how far a reading has come, with its boards
+abbrev pub seen : {W : Type 0} → Kind W → Progress W → Boards W → Model W
+seen k p b =
+    record {
+      rounds = p.rounds;
+      floor = k.meaning p.floor;
+      ceiling = k.meaning p.ceiling;
+      carried = b.carried;
+      kept = b.kept;
+      trial = b.trial;
+      word = b.word;
     }
 
 -- verdict: the pair of floor and ceiling, the rounds, and met exactly when the two mean the same

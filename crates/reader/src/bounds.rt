@@ -55,6 +55,29 @@ impl<L: Layout, W: Weight> Priced<'_, L, W> {
     }
 }
 
+// The floor of boards that were checked, with the trial word and the choices of all rows.
+pub(crate) fn bound<'a, L: Layout, W: Weight>(
+    table: &'a Table<'a, L>,
+    costs: &'a [W],
+    multipliers: &'a [W],
+    trial: &mut [u8],
+    marks: &mut [u8],
+) -> W
+    requires fit { Fit W.kind (L.plan table.now.layout.now) costs.now multipliers.now }
+    requires trial { length trial.old ≡ length costs.now }
+    requires marks { length marks.old ≡ length multipliers.now }
+    ensures value { W.kind.meaning result ≡ floor (L.plan table.now.layout.now).rows (meanings W.kind costs.now) (meanings W.kind multipliers.now) }
+    ensures trial { trial.new ≡ bytes (trial_word (L.plan table.now.layout.now).rows (meanings W.kind costs.now) (meanings W.kind multipliers.now)) }
+    ensures marks { marks.new ≡ bytes (choices (L.plan table.now.layout.now).rows (meanings W.kind multipliers.now)) }
+{
+    let priced = Priced {
+        table,
+        costs,
+        multipliers,
+    };
+    priced.bound(trial, marks)
+}
+
 // Works out the floor of the multipliers and writes the trial word, one byte of 0 or 1 a cell.
 // Declined boards leave the trial word as it was.
 pub fn floor<L: Layout, W: Weight>(

@@ -16,3 +16,11 @@ pub struct Verdict<W> {
     pub rounds: u32,
     pub met: bool,
 }
+
+// How far a reading has come, apart from its layout, which a call reads at the same time.
+#[derive(Clone, Copy, Drop)]
+pub(crate) struct Progress<W> {
+    pub(crate) rounds: u32,
+    pub(crate) floor: W,
+    pub(crate) ceiling: W,
+}

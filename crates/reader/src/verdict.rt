@@ -1,10 +1,23 @@
 // What a reading has come to.
+ghost use Rattle.std.specs.Prelude.{◌≡◌};
 ghost use Rattle.reader.specs.Calls.{VerdictDoes};
 
-use crate::reading::{Reading, Verdict};
+use crate::reading::{Progress, Reading, Verdict};
 use weights::Weight;
 
 impl<L, W: Weight> Reading<L, W> {
+    pub(crate) fn progress(&self) -> Progress<W>
+        ensures rounds { result.rounds ≡ self.now.rounds }
+        ensures floor { result.floor ≡ self.now.floor }
+        ensures ceiling { result.ceiling ≡ self.now.ceiling }
+    {
+        Progress {
+            rounds: self.rounds,
+            floor: self.floor,
+            ceiling: self.ceiling,
+        }
+    }
+
     // Floor and ceiling, the rounds made, and whether the reading is met. Whether the trial word meets the rows has no say in it.
     pub(crate) fn verdict(&self) -> Verdict<W>
         ensures { VerdictDoes W.kind self.now result }
@@ -12,7 +25,7 @@ impl<L, W: Weight> Reading<L, W> {
         Verdict {
             bounds: (self.floor, self.ceiling),
             rounds: self.rounds,
-            met: self.is_met(),
+            met: self.progress().is_met(),
         }
     }
 }
