@@ -7,3 +7,4 @@ pub mod Fits
 pub mod Floors
 mod Moved
 pub mod Rounds
+pub mod Given

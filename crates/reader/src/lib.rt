@@ -9,6 +9,7 @@ mod passes;
 mod reading;
 mod round;
 mod row_choices;
+mod run;
 mod steps;
 mod table;
 #[cfg(test)]

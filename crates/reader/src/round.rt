@@ -84,6 +84,7 @@ impl<W: Weight> Progress<W> {
         requires kept { length kept.old ≡ length carried.old }
         requires trial { length trial.old ≡ length costs.now }
         requires word { length word.old ≡ length costs.now }
+        ensures rounds { self.new.rounds ≡ self.old.rounds + 1 }
         ensures moved { carried.new ≡ moves W.kind (L.plan table.now.layout.now) costs.now step trial.new carried.old }
         ensures after { seen W.kind self.new (boards carried.new kept.new trial.new word.new) ≡ round W.kind (L.plan table.now.layout.now) costs.now step (seen W.kind self.old (boards carried.old kept.old trial.old word.old)) }
     {
@@ -113,7 +114,8 @@ impl<W: Weight> Progress<W> {
         requires kept { length kept.old ≡ length carried.old }
         requires trial { length trial.old ≡ length costs.now }
         requires word { length word.old ≡ length costs.now }
-        ensures { seen W.kind self.new (boards carried.new kept.new trial.new word.new) ≡ rounds_of W.kind (L.plan table.now.layout.now) costs.now (step_of rule) count (seen W.kind self.old (boards carried.old kept.old trial.old word.old)) }
+        ensures grows { self.old.rounds ≤ self.new.rounds }
+        ensures after { seen W.kind self.new (boards carried.new kept.new trial.new word.new) ≡ rounds_of W.kind (L.plan table.now.layout.now) costs.now (step_of rule) count (seen W.kind self.old (boards carried.old kept.old trial.old word.old)) }
     {
         for _round in 0..count {
             if self.is_met() || self.rounds >= 4096 {

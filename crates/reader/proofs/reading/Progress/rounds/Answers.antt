@@ -10,14 +10,14 @@ pub loop-round-init : goal.loop-round-init
 loop-round-init g c =
     let k = g.W.Weight.kind in
     let a = c.args in
-    let e : a.count - 0 ≡ a.count = omega arith in
-    (
+    let e : a.count - 0 ≡ a.count = omega arith in (
       ap (λ n. rounds_of k (g.L.Layout.plan a.table.now.layout.now) a.costs.now (step_of a.rule) n (seen k a.self.now (boards a.carried.now a.kept.now a.trial.now a.word.now))) e,
       c.requires.fit,
+      omega arith,
     )
 
-pub returns-then-is_met : goal.returns-then-is_met
-returns-then-is_met g c =
+pub returns-then-is_met-clause-after : goal.returns-then-is_met-clause-after
+returns-then-is_met-clause-after g c =
     let k = g.W.Weight.kind in
     let p = g.L.Layout.plan c.args.table.now.layout.now in
     let l = c.loop-round in
@@ -41,15 +41,15 @@ loop-round-preserved g c =
     let m = seen k l.self (boards l.carried l.kept l.trial l.word) in
     let n : ℕ = c.args.count - (l._round + 1) in
     let e : suc n ≡ c.args.count - l._round = omega arith in
-    let t = goes_on k p costs m c.is_met.result c.is_met.ensures c.if-is_met.false c.if-self-ge4096.false in
-    (
+    let t = goes_on k p costs m c.is_met.result c.is_met.ensures c.if-is_met.false c.if-self-ge4096.false in (
       ap (rounds_of k p costs rule n) (c.round.ensures.after ∙ ap (λ s. round k p costs s m) c.step-step.ensures.value)
-      ∙ sym (one_round k p costs rule n m t) ∙ ap (λ j. rounds_of k p costs rule j m) e ∙ l.invariant.0,
+          ∙ sym (one_round k p costs rule n m t) ∙ ap (λ j. rounds_of k p costs rule j m) e ∙ l.invariant.0,
       moved_fit k p costs l.carried c.round.new.carried c.step-step.result c.round.new.trial c.step-step.ensures.bounds.0 c.step-step.ensures.bounds.1 l.invariant.1 c.round.ensures.moved,
+      omega (arith, c.round.ensures.rounds, l.invariant.2),
     )
 
-pub returns : goal.returns
-returns g c =
+pub returns-clause-after : goal.returns-clause-after
+returns-clause-after g c =
     let k = g.W.Weight.kind in
     let p = g.L.Layout.plan c.args.table.now.layout.now in
     let l = c.loop-round in

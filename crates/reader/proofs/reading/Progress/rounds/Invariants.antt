@@ -1,4 +1,4 @@
-use Rattle.std.proofs.Common.{◌≡◌, ◌-◌}
+use Rattle.std.proofs.Common.{◌≡◌, ◌-◌, ◌≤◌}
 use Rattle.model.specs.Model.{rounds_of}
 use Rattle.reader.specs.Boards.{Fit}
 use Rattle.reader.specs.Calls.{boards, seen}
@@ -13,3 +13,4 @@ invariant-loop-round g l =
     (rounds_of k p l.costs (step_of l.rule) (l.count - l._round) (seen k l.self (boards l.carried l.kept l.trial l.word))
     ≡ rounds_of k p l.costs (step_of l.rule) l.count (seen k l.initial.self (boards l.initial.carried l.initial.kept l.initial.trial l.initial.word)))
     × Fit k p l.costs l.carried
+    × (l.initial.self.rounds ≤ l.self.rounds)
