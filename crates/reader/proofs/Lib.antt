@@ -8,3 +8,4 @@ pub mod Floors
 mod Moved
 pub mod Rounds
 pub mod Given
+pub mod Taking

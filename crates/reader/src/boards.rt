@@ -4,6 +4,7 @@ ghost use Rattle.refusals.specs.Numbers.{number_of};
 ghost use Rattle.model.specs.Calls.{misfit, begin_refusal, shape_refusal};
 ghost use Rattle.reader.specs.Boards.{floor_refusal, choices_refusal};
 
+use crate::reading::Reading;
 use layouts::Layout;
 use refusals::Refusal;
 use tickets::is_word;
@@ -86,7 +87,7 @@ impl<W: Weight> Boards<'_, W> {
 
     // Whether a call may work on them.
     #[tactic(auto, unfolding(model::specs::Calls::shape_refusal))]
-    pub(crate) fn check<L: Layout>(&self, layout: &L) -> Result<(), Refusal>
+    fn check<L: Layout>(&self, layout: &L) -> Result<(), Refusal>
         ensures { number_of result ≡ shape_refusal W.kind (L.plan layout.now) self.now.costs.now self.now.carried.now self.now.kept.now self.now.trial.now self.now.word.now }
     {
         self.check_new(layout)?;
@@ -98,5 +99,28 @@ impl<W: Weight> Boards<'_, W> {
             return Err(Refusal::BoardValue);
         }
         Ok(())
+    }
+}
+
+impl<L: Layout, W: Weight> Reading<L, W> {
+    // The boards that go to a call.
+    pub(crate) fn check(
+        &self,
+        costs: &[W],
+        carried: &[W],
+        kept: &[W],
+        trial: &[u8],
+        word: &[u8],
+    ) -> Result<(), Refusal>
+        ensures { number_of result ≡ shape_refusal W.kind (L.plan self.now.layout) costs.now carried.now kept.now trial.now word.now }
+    {
+        let given = Boards {
+            costs: &*costs,
+            carried: &*carried,
+            kept: &*kept,
+            trial: &*trial,
+            word: &*word,
+        };
+        given.check(&self.layout)
     }
 }

@@ -4,6 +4,7 @@ ghost use Rattle.refusals.specs.Numbers.{number_of};
 ghost use Rattle.layouts.specs.Plans.{edge_cells};
 ghost use Rattle.weights.specs.Kinds.{meanings};
 ghost use Rattle.dual.specs.Bound.{slacks, choices, trial_word, floor};
+ghost use Rattle.model.specs.Model.{floor_of};
 ghost use Rattle.model.specs.Words.{bytes};
 ghost use Rattle.reader.specs.Boards.{floor_refusal, Fit};
 ghost use Rattle.reader.specs.Sizes.{total_size};
@@ -76,6 +77,26 @@ pub(crate) fn bound<'a, L: Layout, W: Weight>(
         multipliers,
     };
     priced.bound(trial, marks)
+}
+
+// The floor alone.
+pub(crate) fn floor_value<L: Layout, W: Weight>(
+    table: &Table<L>,
+    costs: &[W],
+    multipliers: &[W],
+) -> W
+    requires { Fit W.kind (L.plan table.now.layout.now) costs.now multipliers.now }
+    ensures { W.kind.meaning result ≡ floor_of W.kind (L.plan table.now.layout.now) costs.now multipliers.now }
+{
+    let mut trial = [0u8; 128];
+    let mut marks = [0u8; 1024];
+    bound(
+        &*table,
+        &*costs,
+        &*multipliers,
+        &mut trial[0..costs.len()],
+        &mut marks[0..multipliers.len()],
+    )
 }
 
 // Works out the floor of the multipliers and writes the trial word, one byte of 0 or 1 a cell.

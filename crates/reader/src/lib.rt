@@ -1,10 +1,13 @@
 // Reading a label: the row choice, the floor, and the steps by which multipliers move.
 #![tactic(auto)]
 
+mod begin;
 mod boards;
 mod bounds;
+mod certificates;
 mod choice;
 mod edges;
+mod offers;
 mod passes;
 mod reading;
 mod round;

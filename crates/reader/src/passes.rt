@@ -2,11 +2,19 @@
 ghost use Rattle.std.specs.Prelude.{◌≡◌, ◌^◌, ◌≤◌, length};
 ghost use Rattle.weights.specs.Kinds.{meanings};
 ghost use Rattle.dual.specs.Choice.{negatives, odd, pick, chosen};
+ghost use Rattle.model.specs.Model.{equal};
 ghost use Rattle.model.specs.Words.{bytes, bits};
 ghost use Rattle.reader.specs.Sizes.{total_size};
 
 use crate::choice::{is_negative, turned_place};
 use weights::Weight;
+
+// Weights of one meaning may differ, so that the interface has no `==`.
+pub(crate) fn mean_same<W: Weight>(a: W, b: W) -> bool
+    ensures { result ≡ equal (W.kind.meaning a) (W.kind.meaning b) }
+{
+    !a.below(b) && !b.below(a)
+}
 
 // Marks the negative weights, and says whether there is an odd number of them.
 pub(crate) fn mark_negatives<W: Weight>(list: &[W], marks: &mut [u8]) -> bool

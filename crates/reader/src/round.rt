@@ -8,7 +8,7 @@ ghost use Rattle.reader.specs.Calls.{boards, seen};
 ghost use Rattle.reader.specs.Rules.{step_of};
 
 use crate::bounds::bound;
-use crate::passes::sum_marked;
+use crate::passes::{mean_same, sum_marked};
 use crate::reading::Progress;
 use crate::steps::StepRule;
 use crate::table::Table;
@@ -16,11 +16,11 @@ use layouts::Layout;
 use weights::Weight;
 
 impl<W: Weight> Progress<W> {
-    // Whether floor and ceiling are equal. Weights of one meaning may differ, so that the interface has no `==`.
+    // Whether floor and ceiling are equal.
     pub(crate) fn is_met(&self) -> bool
         ensures { result ≡ equal (W.kind.meaning self.now.floor) (W.kind.meaning self.now.ceiling) }
     {
-        !self.floor.below(self.ceiling) && !self.ceiling.below(self.floor)
+        mean_same(self.floor, self.ceiling)
     }
 
     // Keeps the multipliers whose floor this is, where it is above the reading's.

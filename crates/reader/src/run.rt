@@ -2,7 +2,6 @@
 ghost use Rattle.std.specs.Prelude.{◌≡◌};
 ghost use Rattle.reader.specs.Calls.{boards, state, RunDoes};
 
-use crate::boards::Boards;
 use crate::reading::Reading;
 use crate::steps::StepRule;
 use crate::table::Table;
@@ -24,14 +23,7 @@ impl<L: Layout, W: Weight> Reading<L, W> {
     ) -> Result<u32, Refusal>
         ensures { RunDoes L.plan W.kind costs.now rule count (state self.old (boards carried.old kept.old trial.old word.old)) result (state self.new (boards carried.new kept.new trial.new word.new)) }
     {
-        let given = Boards {
-            costs: &*costs,
-            carried: &*carried,
-            kept: &*kept,
-            trial: &*trial,
-            word: &*word,
-        };
-        given.check(&self.layout)?;
+        self.check(costs, carried, kept, trial, word)?;
         if !(1..=4096).contains(&count) {
             return Err(Refusal::RunCount);
         }
