@@ -13,7 +13,7 @@ use weights::Weight;
 
 impl<L: Layout + Drop, W: Weight> Reading<L, W> {
     // A reading over the layout, which is used up even where the call is declined: all multipliers are zero, both words blank.
-    pub(crate) fn begin(
+    pub fn begin(
         layout: L,
         costs: &[W],
         carried: &mut [W],

@@ -13,7 +13,7 @@ use tickets::{TicketWeight, read, unpack, write};
 impl<L: Layout, W: TicketWeight> Reading<L, W> {
     // Believes a ticket only once its word meets every row and the floor of its multipliers is its word's cost. The work list
     // holds the multipliers as soon as the ticket's form has passed.
-    pub(crate) fn take(
+    pub fn take(
         &mut self,
         costs: &[W],
         carried: &[W],
@@ -48,7 +48,7 @@ impl<L: Layout, W: TicketWeight> Reading<L, W> {
     }
 
     // Writes the ticket of the kept word and the kept multipliers at the front of the output, and answers its length.
-    pub(crate) fn write(
+    pub fn write(
         &self,
         costs: &[W],
         carried: &[W],

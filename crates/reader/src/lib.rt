@@ -22,5 +22,6 @@ mod walks;
 
 pub use bounds::{floor, slacks};
 pub use choice::{RowChoice, choose};
+pub use reading::{Reading, Verdict};
 pub use row_choices::choices;
 pub use steps::{Step, StepRule};

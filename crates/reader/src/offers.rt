@@ -13,7 +13,7 @@ use weights::{MULTIPLIER_SIZE, Weight, any_beyond};
 
 impl<L: Layout, W: Weight> Reading<L, W> {
     // The list becomes the carried multipliers; where its floor is above the reading's, it is kept.
-    pub(crate) fn offer(
+    pub fn offer(
         &mut self,
         costs: &[W],
         carried: &mut [W],
@@ -39,7 +39,7 @@ impl<L: Layout, W: Weight> Reading<L, W> {
 
     // Keeps the word, where it costs less than the ceiling.
     #[tactic(auto, unfolding(model::specs::Model::passes))]
-    pub(crate) fn propose(
+    pub fn propose(
         &mut self,
         costs: &[W],
         carried: &[W],

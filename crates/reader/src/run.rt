@@ -11,7 +11,7 @@ use weights::Weight;
 
 impl<L: Layout, W: Weight> Reading<L, W> {
     // Makes at most so many rounds, and answers how many it made.
-    pub(crate) fn run(
+    pub fn run(
         &mut self,
         costs: &[W],
         carried: &mut [W],

@@ -19,7 +19,7 @@ impl<L, W: Weight> Reading<L, W> {
     }
 
     // Floor and ceiling, the rounds made, and whether the reading is met. Whether the trial word meets the rows has no say in it.
-    pub(crate) fn verdict(&self) -> Verdict<W>
+    pub fn verdict(&self) -> Verdict<W>
         ensures { VerdictDoes W.kind self.now result }
     {
         Verdict {
