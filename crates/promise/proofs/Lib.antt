@@ -1,0 +1,4 @@
+mod Sessions
+mod Bounds
+mod Tickets
+mod Agreement

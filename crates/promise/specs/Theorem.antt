@@ -1,0 +1,50 @@
+-- No false word: what holds of every reading, whatever calls are made.
+use Rattle.std.specs.Prelude.{◌≡◌, ℕ, Bool, true, ◌↔◌, List, length, take, ◌≤ℤ◌, IsTrue, IsOk, Some, None, Ok, Option, Result}
+use Rattle.refusals.specs.declared.Refusal.{Refusal}
+use Rattle.layouts.specs.Plans.{Plan, edges}
+use Rattle.weights.specs.Kinds.{Kind, meanings}
+use Rattle.dual.specs.Bound.{cost, codeword}
+use Rattle.tickets.specs.Codecs.{Codec}
+use Rattle.tickets.specs.Packs.{Bits}
+use Rattle.model.specs.Words.{bits}
+use Rattle.reader.specs.declared.reading.Verdict.{Verdict}
+use Rattle.reader.specs.Calls.{State, VerdictDoes, TakeDoes, WriteDoes}
+use Rattle.promise.specs.Sessions.{New, Reached}
+
+-- one bit a cell, an even number of them dark in each row
+abbrev pub Codeword : Plan → List Bool → Type 0
+Codeword p x = (length x ≡ p.cells) × (codeword p.rows x ≡ true)
+
+-- what a reading over the plan p, with its boards, shows by the verdict v that it would give now
+pub record Honest {L W : Type 0} (kind : Kind W) (p : Plan) (costs : List W) (s : State L W) (v : Verdict W) : Type 0 where
+  -- no codeword costs less than the floor
+  pub floor : (x : List Bool) → Codeword p x → kind.meaning v.bounds.0 ≤ℤ cost (meanings kind costs) x
+  -- the kept word, one byte a cell and each 0 or 1, is a codeword and costs the ceiling
+  pub bytes : Bits s.boards.word
+  pub word : Codeword p (bits s.boards.word)
+  pub ceiling : cost (meanings kind costs) (bits s.boards.word) ≡ kind.meaning v.bounds.1
+  -- met is said exactly when floor and ceiling are equal, and then no codeword costs less than the kept word
+  pub met : IsTrue v.met ↔ (kind.meaning v.bounds.0 ≡ kind.meaning v.bounds.1)
+  pub cheapest : IsTrue v.met → (x : List Bool) → Codeword p x → cost (meanings kind costs) (bits s.boards.word) ≤ℤ cost (meanings kind costs) x
+
+-- at every point, after whatever calls, none included
+abbrev pub FloorAndCeiling : {L W : Type 0} → (L → Plan) → Kind W → Option (Codec W) → Type 0
+FloorAndCeiling {L} {W} plan kind codec =
+    (costs : List W) (layout : L) (s : State L W) (v : Verdict W)
+    → Reached plan kind codec costs layout s → VerdictDoes kind s.reading v → Honest kind (plan layout) costs s v
+
+-- two layouts of the same rows over as many cells
+abbrev pub SameRows : Plan → Plan → Type 0
+SameRows p q = (p.cells ≡ q.cells) × (p.rows ≡ q.rows)
+
+-- a ticket that write gave after any calls, passed at its answered length with a work list of one weight an edge to a new reading
+-- of the same rows, kind and costs, over whatever layout, is accepted, and that reading is then met with the same word
+abbrev pub TicketIsAccepted : {L P W : Type 0} → (L → Plan) → (P → Plan) → Kind W → Codec W → Type 0
+TicketIsAccepted {L} {P} {W} lplan pplan kind codec =
+    (costs costs₂ : List W) (layout : L) (other : P) (s : State L W) (new taken : State P W) (out out' : List ℕ) (n : ℕ) (work work' : List W)
+    (r : Result (Unit {0}) Refusal) (v : Verdict W)
+    → SameRows (lplan layout) (pplan other) → meanings kind costs ≡ meanings kind costs₂
+    → Reached lplan kind (Some codec) costs layout s → WriteDoes lplan kind costs codec s out (Ok n) out'
+    → New pplan kind costs₂ other new → length work ≡ edges (pplan other).rows
+    → TakeDoes pplan kind costs₂ codec (take n out') work new r taken work' → VerdictDoes kind taken.reading v
+    → IsOk r × IsTrue v.met × (taken.boards.word ≡ s.boards.word)
