@@ -1,0 +1,4 @@
+pub mod Sums
+pub mod SumPlan
+pub mod Layers
+pub mod Laws
