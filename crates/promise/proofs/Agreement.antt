@@ -1,5 +1,5 @@
 -- Two readings with the same codewords and costs that are both met have found words of the same cost.
-use Rattle.std.proofs.Common.{◌≡◌, Bool, List, ◌≤ℤ◌, IsTrue, sym, ap, ◌∙◌, subst, arith}
+use Rattle.std.proofs.Common.{◌≡◌, Bool, List, ◌≤ℤ◌, IsTrue, sym, ap, ◌∙◌, arith}
 use Rattle.std.proofs.lemmas.Int.{ints}
 use Rattle.layouts.specs.Plans.{Plan}
 use Rattle.weights.specs.Kinds.{Kind, meanings}
@@ -7,10 +7,10 @@ use Rattle.dual.specs.Bound.{cost, codeword}
 use Rattle.model.specs.Words.{bits}
 use Rattle.reader.specs.declared.reading.Verdict.{Verdict}
 use Rattle.reader.specs.Calls.{State}
-use Rattle.promise.specs.Theorem.{Codeword, Honest}
+use Rattle.promise.specs.Theorem.{Honest}
 
 module _ {L P W : Type 0} (kind : Kind W) (p q : Plan) (costs costs₂ : List W) (cells : p.cells ≡ q.cells) (words : (x : List Bool) → codeword p.rows x ≡ codeword q.rows x) (same : meanings kind costs ≡ meanings kind costs₂)
-  (s : State L W) (v : Verdict W) (h : Honest kind p costs s v) (s₂ : State P W) (v₂ : Verdict W) (h₂ : Honest kind q costs₂ s₂ v₂) (t : IsTrue v.met) (t₂ : IsTrue v₂.met) where
+    (s : State L W) (v : Verdict W) (h : Honest kind p costs s v) (s₂ : State P W) (v₂ : Verdict W) (h₂ : Honest kind q costs₂ s₂ v₂) (t : IsTrue v.met) (t₂ : IsTrue v₂.met) where
   not_above : kind.meaning v.bounds.1 ≤ℤ kind.meaning v₂.bounds.1
   not_above =
       let x = bits s₂.boards.word in

@@ -1,5 +1,5 @@
 -- Floor and ceiling, and what it means that they have met.
-use Rattle.std.proofs.Common.{◌≡◌, Bool, true, List, Option, ◌≤ℤ◌, sym, refl, ap, ◌∙◌, subst}
+use Rattle.std.proofs.Common.{◌≡◌, Bool, true, List, Option, ◌≤ℤ◌, sym, ap, ◌∙◌, subst}
 use Rattle.std.proofs.lemmas.List.{length-map}
 use Rattle.layouts.specs.Plans.{Plan}
 use Rattle.weights.specs.Kinds.{Kind, meanings}
@@ -7,7 +7,7 @@ use Rattle.dual.specs.Bound.{cost, codeword}
 use Rattle.tickets.specs.Codecs.{Codec}
 use Rattle.tickets.proofs.Packing.{bits_from}
 use Rattle.model.specs.Words.{bits, marked}
-use Rattle.model.specs.Model.{passes, cost_of, equal}
+use Rattle.model.specs.Model.{passes, cost_of}
 use Rattle.model.proofs.Orders.{equal_yes, equal_from}
 use Rattle.model.proofs.Invariant.{Inv, fitting, under}
 use Rattle.reader.specs.declared.reading.Verdict.{Verdict}

@@ -1,4 +1,6 @@
 mod Sessions
 mod Bounds
-mod Tickets
 mod Agreement
+mod Tickets
+mod Sums
+mod Whole

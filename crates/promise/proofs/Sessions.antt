@@ -1,15 +1,12 @@
 -- What holds of a new reading, and is kept by every call, holds of every reading.
-use Rattle.std.proofs.Common.{◌≡◌, ℕ, ◌/◌, ◌≤◌, max, List, length, Ok, Err, Option, Result, IfOk, IfErr, sym, refl, ◌∙◌, subst, arith}
+use Rattle.std.proofs.Common.{◌≡◌, ℕ, ◌≤◌, List, length, Ok, Err, Option, Result, sym, ◌∙◌, subst, arith}
 use Rattle.refusals.specs.declared.Refusal.{Refusal}
 use Rattle.layouts.specs.Plans.{Plan}
 use Rattle.weights.specs.Kinds.{Kind}
 use Rattle.tickets.specs.Codecs.{Codec}
 use Rattle.model.specs.Model.{Model, fresh}
-use Rattle.model.specs.Calls.{begin_refusal}
 use Rattle.model.proofs.Invariant.{Inv, inv_fresh, inv_rounds, inv_offer, inv_propose}
-use Rattle.model.proofs.Orders.{neither}
 use Rattle.model.proofs.Takes.{inv_take}
-use Rattle.reader.specs.declared.reading.Reading.{Reading}
 use Rattle.reader.specs.declared.steps.StepRule.{StepRule}
 use Rattle.reader.specs.declared.steps.StepRule.TheVariants.{Constant, Divided}
 use Rattle.reader.specs.Rules.{step_of}

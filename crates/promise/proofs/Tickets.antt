@@ -1,22 +1,20 @@
 -- A ticket that was written after any calls is taken by a new reading of the same rows and costs.
-use Rattle.std.proofs.Common.{◌≡◌, ℕ, Bool, true, false, not, eqb, List, length, take, drop, ◌++◌, Ok, Err, Some, Result, IsOk, IsTrue, sym, refl, ap, ◌∙◌, subst}
+use Rattle.std.proofs.Common.{◌≡◌, ℕ, true, not, eqb, List, length, take, drop, Ok, Err, Some, Result, IsOk, sym, refl, ap, ◌∙◌, subst}
 use Rattle.std.proofs.Math.Seq.{take-append_seam}
 use Rattle.std.proofs.lemmas.Bool.{both_ways, eq-eqb, not-false}
 use Rattle.refusals.specs.Numbers.{number}
 use Rattle.refusals.specs.declared.Refusal.{Refusal}
 use Rattle.refusals.proofs.Counted.{counted}
-use Rattle.layouts.specs.Plans.{Plan, edges}
-use Rattle.weights.specs.Kinds.{Kind, meanings}
+use Rattle.layouts.specs.Plans.{Plan}
+use Rattle.weights.specs.Kinds.{Kind}
 use Rattle.tickets.specs.Codecs.{Codec}
 use Rattle.model.specs.Model.{Model, met, fresh}
-use Rattle.model.specs.Calls.{boards_refusal, ticket_of, take_refusal, take_after}
+use Rattle.model.specs.Calls.{boards_refusal, ticket_of, take_after}
 use Rattle.model.proofs.Orders.{neither, passed}
 use Rattle.model.proofs.Invariant.{Inv}
 use Rattle.model.proofs.Takes.{Taken, ticket_accepted}
-use Rattle.reader.specs.declared.reading.Verdict.{Verdict}
-use Rattle.reader.specs.Calls.{State, view, nothing, Does, VerdictDoes, TakeDoes, WriteDoes}
-use Rattle.promise.specs.Sessions.{New, Reached}
-use Rattle.promise.specs.Theorem.{SameRows, TicketIsAccepted}
+use Rattle.reader.specs.Calls.{State, view, nothing, Does, WriteDoes}
+use Rattle.promise.specs.Theorem.{TicketIsAccepted}
 use Rattle.promise.proofs.Sessions.{reached_keeps, new_is}
 
 -- what is written is the ticket of a reading that is met

@@ -4,7 +4,6 @@ use Rattle.refusals.specs.declared.Refusal.{Refusal}
 use Rattle.layouts.specs.Plans.{Plan}
 use Rattle.weights.specs.Kinds.{Kind}
 use Rattle.tickets.specs.Codecs.{Codec}
-use Rattle.reader.specs.declared.reading.Reading.{Reading}
 use Rattle.reader.specs.declared.reading.Verdict.{Verdict}
 use Rattle.reader.specs.declared.steps.StepRule.{StepRule}
 use Rattle.reader.specs.Calls.{Boards, State, VerdictDoes, BeginDoes, RunDoes, OfferDoes, ProposeDoes, TakeDoes, WriteDoes}

@@ -7,6 +7,8 @@ use Rattle.dual.specs.Bound.{cost, codeword}
 use Rattle.tickets.specs.Codecs.{Codec}
 use Rattle.tickets.specs.Packs.{Bits}
 use Rattle.model.specs.Words.{bits}
+use Rattle.sums.specs.declared.layer.SumLayer.{SumLayer}
+use Rattle.sums.specs.Layers.{layer_plan, Layered}
 use Rattle.reader.specs.declared.reading.Verdict.{Verdict}
 use Rattle.reader.specs.Calls.{State, VerdictDoes, TakeDoes, WriteDoes}
 use Rattle.promise.specs.Sessions.{New, Reached}
@@ -48,3 +50,19 @@ TicketIsAccepted {L} {P} {W} lplan pplan kind codec =
     → New pplan kind costs₂ other new → length work ≡ edges (pplan other).rows
     → TakeDoes pplan kind costs₂ codec (take n out') work new r taken work' → VerdictDoes kind taken.reading v
     → IsOk r × IsTrue v.met × (taken.boards.word ≡ s.boards.word)
+
+-- a reading on a layout, and one of the same kind and costs on a sum layer over a layout of the same rows, after any addings to it,
+-- are never both met with different costs, whatever calls were made on each
+abbrev pub SumsNeverDisagree : {L P W : Type 0} → (L → Plan) → (P → Plan) → Kind W → Option (Codec W) → Type 0
+SumsNeverDisagree {L} {P} {W} lplan pplan kind codec =
+    (costs costs₂ : List W) (layout : L) (below : P) (layer : SumLayer P) (s : State L W) (s₂ : State (SumLayer P) W) (v v₂ : Verdict W)
+    → SameRows (lplan layout) (pplan below) → Layered pplan below layer → meanings kind costs ≡ meanings kind costs₂
+    → Reached lplan kind codec costs layout s → Reached (layer_plan pplan) kind codec costs₂ layer s₂
+    → VerdictDoes kind s.reading v → VerdictDoes kind s₂.reading v₂ → IsTrue v.met → IsTrue v₂.met
+    → kind.meaning v.bounds.1 ≡ kind.meaning v₂.bounds.1
+
+-- over layouts of any two types, a kind of weights, and a kind that goes on tickets: the latter has take and write among its calls
+pub record NoFalseWord {L P W V : Type 0} (lplan : L → Plan) (pplan : P → Plan) (kind : Kind W) (ticket_kind : Kind V) (codec : Codec V) : Type 0 where
+  pub floor_and_ceiling : FloorAndCeiling lplan kind None × FloorAndCeiling lplan ticket_kind (Some codec)
+  pub ticket : TicketIsAccepted lplan pplan ticket_kind codec
+  pub sums : SumsNeverDisagree lplan pplan kind None × SumsNeverDisagree lplan pplan ticket_kind (Some codec)

@@ -1,8 +1,7 @@
 // What can be relied on, over every layout and every kind of weights, whatever calls are made on a reading.
 #![tactic(auto)]
 
-ghost use Rattle.std.specs.Prelude.{None};
-ghost use Rattle.promise.specs.Theorem.{FloorAndCeiling, TicketIsAccepted};
+ghost use Rattle.promise.specs.Theorem.{NoFalseWord};
 
 use layouts::Layout;
 use tickets::TicketWeight;
@@ -10,6 +9,5 @@ use weights::Weight;
 
 // No false word can be certified by the public calls. There is nothing to compute: the contract is the promise.
 pub fn no_false_word<L: Layout, P: Layout, W: Weight, T: TicketWeight>()
-    ensures floor { FloorAndCeiling L.plan W.kind None }
-    ensures ticket { TicketIsAccepted L.plan P.plan T.Weight.kind T.codec }
+    ensures { NoFalseWord L.plan P.plan W.kind T.Weight.kind T.codec }
 {}
