@@ -7,10 +7,10 @@ use Rattle.dual.specs.Bound.{cost, codeword}
 use Rattle.model.specs.Words.{bits}
 use Rattle.reader.specs.declared.reading.Verdict.{Verdict}
 use Rattle.reader.specs.Calls.{State}
-use Rattle.promise.specs.Theorem.{Honest}
+use Rattle.promise.specs.Theorem.{BoundsHold}
 
 module _ {L P W : Type 0} (kind : Kind W) (p q : Plan) (costs costs₂ : List W) (cells : p.cells ≡ q.cells) (words : (x : List Bool) → codeword p.rows x ≡ codeword q.rows x) (same : meanings kind costs ≡ meanings kind costs₂)
-    (s : State L W) (v : Verdict W) (h : Honest kind p costs s v) (s₂ : State P W) (v₂ : Verdict W) (h₂ : Honest kind q costs₂ s₂ v₂) (t : IsTrue v.met) (t₂ : IsTrue v₂.met) where
+    (s : State L W) (v : Verdict W) (h : BoundsHold kind p costs s v) (s₂ : State P W) (v₂ : Verdict W) (h₂ : BoundsHold kind q costs₂ s₂ v₂) (t : IsTrue v.met) (t₂ : IsTrue v₂.met) where
   not_above : kind.meaning v.bounds.1 ≤ℤ kind.meaning v₂.bounds.1
   not_above =
       let x = bits s₂.boards.word in

@@ -12,7 +12,7 @@ use Rattle.model.proofs.Orders.{equal_yes, equal_from}
 use Rattle.model.proofs.Invariant.{Inv, fitting, under}
 use Rattle.reader.specs.declared.reading.Verdict.{Verdict}
 use Rattle.reader.specs.Calls.{State, view, VerdictDoes}
-use Rattle.promise.specs.Theorem.{Codeword, Honest, FloorAndCeiling}
+use Rattle.promise.specs.Theorem.{IsCodeword, BoundsHold, FloorAndCeiling}
 use Rattle.promise.proofs.Sessions.{reached_keeps}
 
 module _ {L W : Type 0} (kind : Kind W) (p : Plan) (costs : List W) (s : State L W) (v : Verdict W) (i : Inv kind p costs (view kind s)) (d : VerdictDoes kind s.reading v) where
@@ -22,7 +22,7 @@ module _ {L W : Type 0} (kind : Kind W) (p : Plan) (costs : List W) (s : State L
   ceiling_is : kind.meaning v.bounds.1 ≡ kind.meaning s.reading.ceiling
   ceiling_is = ap kind.meaning d.ceiling
 
-  floor_below : (x : List Bool) → Codeword p x → kind.meaning v.bounds.0 ≤ℤ cost (meanings kind costs) x
+  floor_below : (x : List Bool) → IsCodeword p x → kind.meaning v.bounds.0 ≤ℤ cost (meanings kind costs) x
   floor_below x w = subst (λ z. z ≤ℤ cost (meanings kind costs) x) (sym floor_is) (under kind p costs (view kind s) i x w.0 w.1)
 
   word_costs : cost (meanings kind costs) (bits s.boards.word) ≡ kind.meaning v.bounds.1
@@ -39,8 +39,8 @@ module _ {L W : Type 0} (kind : Kind W) (p : Plan) (costs : List W) (s : State L
   said_met : kind.meaning v.bounds.0 ≡ kind.meaning v.bounds.1 → v.met ≡ true
   said_met e = d.met ∙ equal_from _ _ (sym floor_is ∙ e ∙ ceiling_is)
 
-  pub honest : Honest kind p costs s v
-  honest =
+  pub bounds_hold : BoundsHold kind p costs s v
+  bounds_hold =
       record {
         floor = floor_below;
         bytes = bits_from s.boards.word (fitting kind p costs (view kind s) i).word.bits;
@@ -51,4 +51,4 @@ module _ {L W : Type 0} (kind : Kind W) (p : Plan) (costs : List W) (s : State L
       }
 
 pub floor_and_ceiling : {L W : Type 0} (plan : L → Plan) (kind : Kind W) (codec : Option (Codec W)) → FloorAndCeiling plan kind codec
-floor_and_ceiling plan kind codec costs layout s v r d = honest kind (plan layout) costs s v (reached_keeps plan kind costs codec layout s r).1 d
+floor_and_ceiling plan kind codec costs layout s v r d = bounds_hold kind (plan layout) costs s v (reached_keeps plan kind costs codec layout s r).1 d

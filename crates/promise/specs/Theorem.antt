@@ -14,26 +14,26 @@ use Rattle.reader.specs.Calls.{State, VerdictDoes, TakeDoes, WriteDoes}
 use Rattle.promise.specs.Sessions.{New, Reached}
 
 -- one bit a cell, an even number of them dark in each row
-abbrev pub Codeword : Plan → List Bool → Type 0
-Codeword p x = (length x ≡ p.cells) × (codeword p.rows x ≡ true)
+abbrev pub IsCodeword : Plan → List Bool → Type 0
+IsCodeword p x = (length x ≡ p.cells) × (codeword p.rows x ≡ true)
 
--- what a reading over the plan p, with its boards, shows by the verdict v that it would give now
-pub record Honest {L W : Type 0} (kind : Kind W) (p : Plan) (costs : List W) (s : State L W) (v : Verdict W) : Type 0 where
+-- what floor and ceiling, as verdict gives them now, say of a reading over the plan p with its boards
+pub record BoundsHold {L W : Type 0} (kind : Kind W) (p : Plan) (costs : List W) (s : State L W) (v : Verdict W) : Type 0 where
   -- no codeword costs less than the floor
-  pub floor : (x : List Bool) → Codeword p x → kind.meaning v.bounds.0 ≤ℤ cost (meanings kind costs) x
+  pub floor : (x : List Bool) → IsCodeword p x → kind.meaning v.bounds.0 ≤ℤ cost (meanings kind costs) x
   -- the kept word, one byte a cell and each 0 or 1, is a codeword and costs the ceiling
   pub bytes : Bits s.boards.word
-  pub word : Codeword p (bits s.boards.word)
+  pub word : IsCodeword p (bits s.boards.word)
   pub ceiling : cost (meanings kind costs) (bits s.boards.word) ≡ kind.meaning v.bounds.1
   -- met is said exactly when floor and ceiling are equal, and then no codeword costs less than the kept word
   pub met : IsTrue v.met ↔ (kind.meaning v.bounds.0 ≡ kind.meaning v.bounds.1)
-  pub cheapest : IsTrue v.met → (x : List Bool) → Codeword p x → cost (meanings kind costs) (bits s.boards.word) ≤ℤ cost (meanings kind costs) x
+  pub cheapest : IsTrue v.met → (x : List Bool) → IsCodeword p x → cost (meanings kind costs) (bits s.boards.word) ≤ℤ cost (meanings kind costs) x
 
--- at every point, after whatever calls, none included
+-- at every point: after any calls on a new reading, none included
 abbrev pub FloorAndCeiling : {L W : Type 0} → (L → Plan) → Kind W → Option (Codec W) → Type 0
 FloorAndCeiling {L} {W} plan kind codec =
     (costs : List W) (layout : L) (s : State L W) (v : Verdict W)
-    → Reached plan kind codec costs layout s → VerdictDoes kind s.reading v → Honest kind (plan layout) costs s v
+    → Reached plan kind codec costs layout s → VerdictDoes kind s.reading v → BoundsHold kind (plan layout) costs s v
 
 -- two layouts of the same rows over as many cells
 abbrev pub SameRows : Plan → Plan → Type 0
