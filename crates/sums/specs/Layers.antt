@@ -1,19 +1,16 @@
 -- A layout to which sums of its rows are added.
-use Rattle.std.specs.Prelude.{◌≡◌, ℕ, List, [], ◌∷◌, ◌++◌, map, Result, OnOk, OnErr}
+use Rattle.std.specs.Prelude.{◌≡◌, ℕ, List, [], ◌∷◌, ◌++◌, Result, OnOk, OnErr}
 use Rattle.refusals.specs.Numbers.{number_of}
 use Rattle.refusals.specs.declared.Refusal.{Refusal}
 use Rattle.layouts.specs.Plans.{Plan}
 use Rattle.sums.specs.Sums.{row_sum, add_refusal}
 use Rattle.sums.specs.SumPlan.{sum_plan}
-use Rattle.sums.specs.declared.row.SumRow.{SumRow}
+use Rattle.sums.specs.Tables.{cells_of}
 use Rattle.sums.specs.declared.layer.SumLayer.{SumLayer}
-
-abbrev pub row_cells : SumRow → List ℕ
-row_cells row = row.cells.items
 
 -- the cells of each row that was added
 abbrev pub added : {P : Type 0} → SumLayer P → List (List ℕ)
-added layer = map row_cells layer.sums.rows.items
+added layer = cells_of layer.sums.rows.items
 
 -- the rows of the layout below, then the added ones in order, where they keep the limits of a layout
 abbrev pub layer_plan : {P : Type 0} → (P → Plan) → SumLayer P → Plan

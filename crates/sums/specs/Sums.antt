@@ -14,9 +14,13 @@ toggled (first ∷ row) cell = cond (nat_lt cell first) (cell ∷ first ∷ row)
 abbrev pub with_row : List ℕ → List ℕ → List ℕ
 with_row sum row = fold toggled sum row
 
--- the sum of the named rows, built up from no cell, one named row after another
+-- the named rows, one after another
+abbrev pub with_rows : List (List ℕ) → List ℕ → List ℕ → List ℕ
+with_rows rows sum names = fold (λ so_far name. with_row so_far (row_at rows name)) sum names
+
+-- the sum of the named rows, built up from no cell
 abbrev pub row_sum : List (List ℕ) → List ℕ → List ℕ
-row_sum rows names = fold (λ sum name. with_row sum (row_at rows name)) [] names
+row_sum rows names = with_rows rows [] names
 
 -- at least one number, each below the count and above the one before
 abbrev pub some_rising : ℕ → List ℕ → Bool
