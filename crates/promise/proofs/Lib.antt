@@ -1,0 +1,6 @@
+mod Sessions
+mod Bounds
+mod Agreement
+mod Tickets
+mod Sums
+mod Whole

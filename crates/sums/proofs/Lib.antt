@@ -1,0 +1,3 @@
+pub mod Toggles
+pub mod Odds
+pub mod Layered

@@ -1,0 +1,5 @@
+pub mod Sums
+pub mod SumPlan
+pub mod Tables
+pub mod Layers
+pub mod Laws
