@@ -1,6 +1,8 @@
 // The texts that answer commands. The heap goes along to all that allocates, as allocators do.
-use crate::weights_text::{Shown, Spaced};
+use crate::boards::Boards;
+use crate::weights_text::{Shown, Spaced, Word};
 use layouts::{CellNo, Layout, RowNo};
+use reader::Verdict;
 use std::alloc::{AllocError, Global};
 use std::fmt;
 
@@ -13,6 +15,10 @@ pub fn counts<L: Layout>(heap: Global, layout: &L) -> Result<String, AllocError>
     let rows = layout.rows();
     let edges = layout.edges();
     format!(in heap; "layout {cells} cells {rows} rows {edges} edges\n")
+}
+
+pub fn boards<W: Shown>(heap: Global, boards: &Boards<W>) -> Result<String, AllocError> {
+    format!(in heap; "{boards}")
 }
 
 pub fn costs<W: Shown>(heap: Global, costs: &[W]) -> Result<String, AllocError> {
@@ -44,8 +50,43 @@ pub fn floor<W: Shown>(
     floor: W,
 ) -> Result<String, AllocError> {
     let slacks = Spaced(slacks);
-    let trial = Bits(trial);
-    format!(in heap; "slacks{slacks}\ntrial {trial}\nfloor {floor}\n")
+    let trial = Word(trial);
+    format!(in heap; "slacks{slacks}\ntrial{trial}\nfloor {floor}\n")
+}
+
+// The cells of the sum that was added last.
+pub fn sum<L: Layout>(heap: Global, layout: &L) -> Result<String, AllocError> {
+    let row = RowNo(layout.rows().saturating_sub(1));
+    let cells = Cells { layout, row };
+    format!(in heap; "sum cells{cells}\n")
+}
+
+pub fn ran(heap: Global, made: u32) -> Result<String, AllocError> {
+    format!(in heap; "ran {made}\n")
+}
+
+pub fn verdict<W: Shown>(heap: Global, verdict: &Verdict<W>) -> Result<String, AllocError> {
+    let (floor, ceiling) = verdict.bounds;
+    let rounds = verdict.rounds;
+    let end = if verdict.met { "met" } else { "open" };
+    format!(in heap; "verdict floor {floor} ceiling {ceiling} rounds {rounds} {end}\n")
+}
+
+// What a round came to.
+pub fn traced<W: Shown>(
+    heap: Global,
+    verdict: &Verdict<W>,
+    trial: &[u8],
+) -> Result<String, AllocError> {
+    let (floor, ceiling) = verdict.bounds;
+    let rounds = verdict.rounds;
+    let trial = Word(trial);
+    format!(in heap; "round {rounds} trial{trial} floor {floor} ceiling {ceiling}\n")
+}
+
+pub fn word(heap: Global, word: &[u8]) -> Result<String, AllocError> {
+    let word = Word(word);
+    format!(in heap; "word{word}\n")
 }
 
 pub fn ticket(heap: Global, bytes: &[u8]) -> Result<String, AllocError> {
@@ -59,9 +100,9 @@ pub fn contents<W: Shown>(
     word: &[u8],
     multipliers: &[W],
 ) -> Result<String, AllocError> {
-    let word = Bits(word);
+    let word = Word(word);
     let multipliers = Spaced(multipliers);
-    format!(in heap; "word {word}\nmultipliers{multipliers}\n")
+    format!(in heap; "word{word}\nmultipliers{multipliers}\n")
 }
 
 // A line for each row. The marks have one byte an edge, row after row.
@@ -92,6 +133,24 @@ impl<L: Layout, W: Shown> fmt::Display for Rows<'_, L, W> {
     }
 }
 
+// The cells of a row, each behind a blank.
+#[derive(Drop)]
+struct Cells<'a, L> {
+    layout: &'a L,
+    row: RowNo,
+}
+
+impl<L: Layout> fmt::Display for Cells<'_, L> {
+    fn fmt<F: fmt::Write>(&self, f: &mut fmt::Formatter<F>) -> fmt::Result {
+        for place in 0..self.layout.row_len(self.row).unwrap_or(0) {
+            if let Some(CellNo(cell)) = self.layout.cell(self.row, place) {
+                write!(f, " {cell}")?;
+            }
+        }
+        Ok(())
+    }
+}
+
 // The cells of a row whose edges are marked, each behind a blank.
 #[derive(Drop)]
 struct Chosen<'a, L> {
@@ -108,18 +167,6 @@ impl<L: Layout> fmt::Display for Chosen<'_, L> {
             {
                 write!(f, " {cell}")?;
             }
-        }
-        Ok(())
-    }
-}
-
-#[derive(Drop)]
-struct Bits<'a>(&'a [u8]);
-
-impl fmt::Display for Bits<'_> {
-    fn fmt<F: fmt::Write>(&self, f: &mut fmt::Formatter<F>) -> fmt::Result {
-        for bit in self.0 {
-            write!(f, "{bit}")?;
         }
         Ok(())
     }

@@ -1,91 +1,68 @@
-// The costs and multipliers of one kind of weight.
-use crate::command::{Query, Setting};
+// The five boards of a reading.
+use crate::command::BoardName;
 use crate::fault::Fault;
-use crate::weights_text::Shown;
-use crate::{answers, words};
+use crate::weights_text::{Shown, Spaced, Word};
+use crate::words;
 use layouts::Layout;
 use std::alloc::{AllocError, Global};
+use std::fmt;
 
 #[derive(Drop)]
 pub struct Boards<W> {
-    heap: Global,
-    costs: Vec<W>,
-    multipliers: Vec<W>,
+    pub costs: Vec<W>,
+    pub carried: Vec<W>,
+    pub kept: Vec<W>,
+    pub trial: Vec<u8>,
+    pub word: Vec<u8>,
 }
 
 impl<W: Shown> Boards<W> {
     pub fn new(heap: Global) -> Boards<W> {
         Boards {
-            heap,
             costs: Vec::new(heap),
-            multipliers: Vec::new(heap),
+            carried: Vec::new(heap),
+            kept: Vec::new(heap),
+            trial: Vec::new(heap),
+            word: Vec::new(heap),
         }
     }
 
-    pub fn set(&mut self, setting: Setting) -> Result<String, Fault> {
-        match setting {
-            Setting::Greys(greys) => self.set_costs(self.priced(&greys)?),
-            Setting::Costs(words) => self.set_costs(words::values(self.heap, words)?),
-            Setting::Multipliers(words) => {
-                self.multipliers = words::values(self.heap, words)?;
-                Ok(answers::ok(self.heap)?)
-            }
-        }
-    }
-
-    fn set_costs(&mut self, costs: Vec<W>) -> Result<String, Fault> {
-        self.costs = costs;
-        Ok(answers::costs(self.heap, &self.costs)?)
-    }
-
-    pub fn ask<L: Layout>(&self, layout: &L, query: Query) -> Result<String, Fault> {
-        match query {
-            Query::Choices => self.choices(layout),
-            Query::Floor => self.floor(layout),
-            Query::Encode { word, multipliers } => self.encode(layout, &word, multipliers),
-            Query::Decode(bytes) => self.decode(layout, &bytes),
-        }
-    }
-
-    fn choices<L: Layout>(&self, layout: &L) -> Result<String, Fault> {
-        let mut marks = vec![in self.heap; 0u8; usize::from(layout.edges())]?;
-        let mut sums = self.zeros(usize::from(layout.rows()))?;
-        reader::choices(layout, &self.multipliers, &mut marks, &mut sums)?;
-        Ok(answers::choices(self.heap, layout, &marks, &sums)?)
-    }
-
-    fn floor<L: Layout>(&self, layout: &L) -> Result<String, Fault> {
+    // Boards for these costs, of the lengths that the layout asks for.
+    pub fn for_layout<L: Layout>(
+        heap: Global,
+        layout: &L,
+        costs: Vec<W>,
+    ) -> Result<Boards<W>, AllocError> {
         let cells = usize::from(layout.cells());
-        let mut slacks = self.zeros(cells)?;
-        reader::slacks(layout, &self.costs, &self.multipliers, &mut slacks)?;
-        let mut trial = vec![in self.heap; 0u8; cells]?;
-        let floor = reader::floor(layout, &self.costs, &self.multipliers, &mut trial)?;
-        Ok(answers::floor(self.heap, &slacks, &trial, floor)?)
+        let edges = usize::from(layout.edges());
+        Ok(Boards {
+            costs,
+            carried: vec![in heap; W::zero(); edges]?,
+            kept: vec![in heap; W::zero(); edges]?,
+            trial: vec![in heap; 0u8; cells]?,
+            word: vec![in heap; 0u8; cells]?,
+        })
     }
 
-    fn encode<L: Layout>(&self, layout: &L, word: &[u8], words: &[&str]) -> Result<String, Fault> {
-        let multipliers: Vec<W> = words::values(self.heap, words)?;
-        let mut out = vec![in self.heap; 0u8; tickets::ticket_len::<L, W>(layout)]?;
-        tickets::write(layout, word, &multipliers, &mut out)?;
-        Ok(answers::ticket(self.heap, &out)?)
+    pub fn replace(&mut self, heap: Global, name: BoardName, values: &[&str]) -> Result<(), Fault> {
+        match name {
+            BoardName::Costs => self.costs = words::values(heap, values)?,
+            BoardName::Carried => self.carried = words::values(heap, values)?,
+            BoardName::Kept => self.kept = words::values(heap, values)?,
+            BoardName::Trial => self.trial = words::joined_cells(heap, values)?,
+            BoardName::Word => self.word = words::joined_cells(heap, values)?,
+        }
+        Ok(())
     }
+}
 
-    fn decode<L: Layout>(&self, layout: &L, bytes: &[u8]) -> Result<String, Fault> {
-        let mut multipliers = self.zeros(usize::from(layout.edges()))?;
-        let packed = tickets::read(layout, bytes, &mut multipliers)?;
-        let mut word = vec![in self.heap; 0u8; usize::from(layout.cells())]?;
-        tickets::unpack(packed, &mut word);
-        Ok(answers::contents(self.heap, &word, &multipliers)?)
-    }
-
-    // The costs of greys.
-    fn priced(&self, greys: &[u8]) -> Result<Vec<W>, Fault> {
-        let mut costs = self.zeros(greys.len())?;
-        weights::convert(greys, &mut costs)?;
-        Ok(costs)
-    }
-
-    fn zeros(&self, len: usize) -> Result<Vec<W>, AllocError> {
-        vec![in self.heap; W::zero(); len]
+// A line for each board.
+impl<W: Shown> fmt::Display for Boards<W> {
+    fn fmt<F: fmt::Write>(&self, f: &mut fmt::Formatter<F>) -> fmt::Result {
+        writeln!(f, "costs{}", Spaced(&self.costs))?;
+        writeln!(f, "carried{}", Spaced(&self.carried))?;
+        writeln!(f, "kept{}", Spaced(&self.kept))?;
+        writeln!(f, "trial{}", Word(&self.trial))?;
+        writeln!(f, "word{}", Word(&self.word))
     }
 }

@@ -1,25 +1,24 @@
 // What stands on the desk, and how a line changes it.
-use crate::boards::Boards;
-use crate::command::{Command, KindName, Query, Setting};
+use crate::chosen::{Chosen, Source};
+use crate::command::{Action, Command, KindName, Query, Setting};
 use crate::fault::{Fault, Mistake};
-use crate::shape::{Listing, Shape};
-use crate::weights_text::Shown;
+use crate::session::Session;
 use crate::{answers, command, help};
-use layouts::Grid;
+use layouts::{Grid, Listed, RowNo};
 use std::alloc::{AllocError, Global};
 use weights::{Paired, Plain};
 
 // An enum, since a boxed kind may not be made and handed out.
 #[derive(Drop)]
 enum Kind {
-    Plain(Boards<Plain>),
-    Paired(Boards<Paired>),
+    Plain(Session<Plain>),
+    Paired(Session<Paired>),
 }
 
 #[derive(Drop)]
 pub struct Desk {
     heap: Global,
-    shape: Option<Shape>,
+    chosen: Option<Chosen>,
     kind: Kind,
 }
 
@@ -27,8 +26,8 @@ impl Desk {
     pub fn new(heap: Global) -> Desk {
         Desk {
             heap,
-            shape: None,
-            kind: Kind::Plain(Boards::new(heap)),
+            chosen: None,
+            kind: Kind::Plain(Session::new(heap)),
         }
     }
 
@@ -64,19 +63,34 @@ impl Desk {
                 let commands = help::Commands;
                 Ok(format!(in self.heap; "{commands}")?)
             }
-            Command::Listed(listing) => self.choose_listed(listing),
+            Command::Listed {
+                cells,
+                ends,
+                entries,
+            } => self.choose_listed(cells, ends, entries),
             Command::Grid { lines, columns } => self.choose_grid(lines, columns),
+            Command::Sum(rows) => self.sum(rows),
             Command::Kind(name) => self.choose_kind(name),
             Command::Set(setting) => self.set(setting),
             Command::Ask(query) => self.ask(query),
+            Command::Act(action) => self.act(action),
+            Command::Boards => self.boards(),
         }
     }
 
-    // A declined layout stands too, as the library makes it.
-    fn choose_listed(&mut self, listing: Listing) -> Result<String, Fault> {
-        let checked = listing.check();
-        let counts = answers::counts(self.heap, &listing.layout())?;
-        self.shape = Some(Shape::Listed(listing));
+    // Where the lists are declined, one cell and no rows stand, as the library makes it.
+    fn choose_listed(
+        &mut self,
+        cells: u16,
+        ends: Vec<u16>,
+        entries: Vec<u16>,
+    ) -> Result<String, Fault> {
+        let checked = Listed::check(cells, &ends, &entries);
+        let counts = self.choose(Source::Listed {
+            cells,
+            ends,
+            entries,
+        })?;
         match checked {
             Ok(()) => Ok(counts),
             Err(refusal) => Ok(format!(in self.heap; "{refusal}\n{counts}")?),
@@ -84,17 +98,45 @@ impl Desk {
     }
 
     fn choose_grid(&mut self, lines: u16, columns: u16) -> Result<String, Fault> {
-        let grid = Grid::new(lines, columns)?;
-        let counts = answers::counts(self.heap, &grid)?;
-        self.shape = Some(Shape::Grid(grid));
+        self.choose(Source::Grid(Grid::new(lines, columns)?))
+    }
+
+    // A reading over another layout is forgotten.
+    fn choose(&mut self, source: Source) -> Result<String, Fault> {
+        let chosen = Chosen::new(self.heap, source);
+        let counts = answers::counts(self.heap, &chosen.layer()?)?;
+        self.chosen = Some(chosen);
+        match &mut self.kind {
+            Kind::Plain(session) => session.forget_reading(),
+            Kind::Paired(session) => session.forget_reading(),
+        }
         Ok(counts)
     }
 
-    // Boards of one kind mean nothing in the other, so they are forgotten.
+    fn sum(&mut self, rows: Vec<RowNo>) -> Result<String, Fault> {
+        if self.has_begun() {
+            return Err(Fault::from(Mistake::Begun));
+        }
+        let chosen = self.chosen.as_mut().ok_or(Mistake::NoLayout)?;
+        let mut layer = chosen.layer()?;
+        layer.add(&rows)?;
+        let answer = answers::sum(self.heap, &layer)?;
+        chosen.keep_sum(rows)?;
+        Ok(answer)
+    }
+
+    fn has_begun(&self) -> bool {
+        match &self.kind {
+            Kind::Plain(session) => session.has_begun(),
+            Kind::Paired(session) => session.has_begun(),
+        }
+    }
+
+    // Boards and a reading of one kind mean nothing in the other, so they are forgotten.
     fn choose_kind(&mut self, name: KindName) -> Result<String, Fault> {
         match (&self.kind, name) {
-            (Kind::Plain(_), KindName::Paired) => self.kind = Kind::Paired(Boards::new(self.heap)),
-            (Kind::Paired(_), KindName::Plain) => self.kind = Kind::Plain(Boards::new(self.heap)),
+            (Kind::Plain(_), KindName::Paired) => self.kind = Kind::Paired(Session::new(self.heap)),
+            (Kind::Paired(_), KindName::Plain) => self.kind = Kind::Plain(Session::new(self.heap)),
             _ => {}
         }
         Ok(answers::ok(self.heap)?)
@@ -102,23 +144,31 @@ impl Desk {
 
     fn set(&mut self, setting: Setting) -> Result<String, Fault> {
         match &mut self.kind {
-            Kind::Plain(boards) => boards.set(setting),
-            Kind::Paired(boards) => boards.set(setting),
+            Kind::Plain(session) => session.set(setting),
+            Kind::Paired(session) => session.set(setting),
         }
     }
 
     fn ask(&self, query: Query) -> Result<String, Fault> {
+        let layer = self.chosen.as_ref().ok_or(Mistake::NoLayout)?.layer()?;
         match &self.kind {
-            Kind::Plain(boards) => self.ask_of(boards, query),
-            Kind::Paired(boards) => self.ask_of(boards, query),
+            Kind::Plain(session) => session.ask(&layer, query),
+            Kind::Paired(session) => session.ask(&layer, query),
         }
     }
 
-    fn ask_of<W: Shown>(&self, boards: &Boards<W>, query: Query) -> Result<String, Fault> {
-        match &self.shape {
-            Some(Shape::Listed(listing)) => boards.ask(&listing.layout(), query),
-            Some(Shape::Grid(grid)) => boards.ask(grid, query),
-            None => Err(Fault::from(Mistake::NoLayout)),
+    fn act(&mut self, action: Action) -> Result<String, Fault> {
+        let layer = self.chosen.as_ref().ok_or(Mistake::NoLayout)?.layer()?;
+        match &mut self.kind {
+            Kind::Plain(session) => session.act(layer, action),
+            Kind::Paired(session) => session.act(layer, action),
+        }
+    }
+
+    fn boards(&self) -> Result<String, Fault> {
+        match &self.kind {
+            Kind::Plain(session) => Ok(answers::boards(self.heap, &session.boards)?),
+            Kind::Paired(session) => Ok(answers::boards(self.heap, &session.boards)?),
         }
     }
 }

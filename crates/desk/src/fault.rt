@@ -26,8 +26,14 @@ pub enum Mistake {
     Word,
     #[error("expected a ticket, two hexadecimal digits a byte")]
     Hex,
+    #[error("expected the name of a board: costs, carried, kept, trial or word")]
+    Board,
     #[error("choose a layout first, by listed or grid")]
     NoLayout,
+    #[error("begin a reading first, by begin or read")]
+    NoReading,
+    #[error("sums are added before a reading begins: choose the layout again to add more")]
+    Begun,
 }
 
 #[derive(Clone, Copy, Debug, Error)]

@@ -3,10 +3,14 @@
 
 mod answers;
 mod boards;
+mod chosen;
 mod command;
 mod desk;
 mod fault;
 mod help;
+mod kept;
+mod reading;
+mod session;
 mod shape;
 mod verb;
 mod weights_text;

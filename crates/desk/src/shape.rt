@@ -1,27 +1,51 @@
-// The layout that is chosen. The library's listed layout borrows its rows, so they are kept here.
-use layouts::{Grid, Listed};
-use refusals::Refusal;
+// The layout that is chosen. A reading uses its layout up, so that the desk keeps one to copy, in memory of a fixed size.
+ghost use Rattle.std.specs.Prelude.{◌≡◌};
+ghost use Rattle.desk.specs.Shapes.{shape_plan};
 
-#[derive(Drop)]
-pub struct Listing {
-    pub cells: u16,
-    pub ends: Vec<u16>,
-    pub entries: Vec<u16>,
-}
-
-impl Listing {
-    pub fn check(&self) -> Result<(), Refusal> {
-        Listed::check(self.cells, &self.ends, &self.entries)
-    }
-
-    // A listing that `check` declines makes a layout too, of one cell and no rows.
-    pub fn layout(&self) -> Listed<'_> {
-        Listed::new(self.cells, &self.ends, &self.entries)
-    }
-}
+use crate::kept::KeptList;
+use layouts::{CellNo, Grid, Layout, RowNo};
 
 #[derive(Drop)]
 pub enum Shape {
-    Listed(Listing),
+    Listed(KeptList),
     Grid(Grid),
+}
+
+impl Layout for Shape {
+    ghost plan = { shape_plan };
+
+    fn cells(&self) -> u16 {
+        match self {
+            Shape::Listed(listed) => listed.cells(),
+            Shape::Grid(grid) => grid.cells(),
+        }
+    }
+
+    fn rows(&self) -> u16 {
+        match self {
+            Shape::Listed(listed) => listed.rows(),
+            Shape::Grid(grid) => grid.rows(),
+        }
+    }
+
+    fn edges(&self) -> u16 {
+        match self {
+            Shape::Listed(listed) => listed.edges(),
+            Shape::Grid(grid) => grid.edges(),
+        }
+    }
+
+    fn row_len(&self, row: RowNo) -> Option<u16> {
+        match self {
+            Shape::Listed(listed) => listed.row_len(row),
+            Shape::Grid(grid) => grid.row_len(row),
+        }
+    }
+
+    fn cell(&self, row: RowNo, place: u16) -> Option<CellNo> {
+        match self {
+            Shape::Listed(listed) => listed.cell(row, place),
+            Shape::Grid(grid) => grid.cell(row, place),
+        }
+    }
 }

@@ -8,6 +8,7 @@ pub enum Verb {
     Help,
     Listed,
     Grid,
+    Sum,
     Kind,
     Greys,
     Costs,
@@ -16,13 +17,25 @@ pub enum Verb {
     Floor,
     Encode,
     Decode,
+    Read,
+    Begin,
+    Run,
+    Trace,
+    Offer,
+    Propose,
+    Take,
+    Verdict,
+    Write,
+    Boards,
+    Board,
 }
 
 // In the order in which help lists them.
-pub const ALL: [Verb; 11] = [
+pub const ALL: [Verb; 23] = [
     Verb::Help,
     Verb::Listed,
     Verb::Grid,
+    Verb::Sum,
     Verb::Kind,
     Verb::Greys,
     Verb::Costs,
@@ -31,6 +44,17 @@ pub const ALL: [Verb; 11] = [
     Verb::Floor,
     Verb::Encode,
     Verb::Decode,
+    Verb::Read,
+    Verb::Begin,
+    Verb::Run,
+    Verb::Trace,
+    Verb::Offer,
+    Verb::Propose,
+    Verb::Take,
+    Verb::Verdict,
+    Verb::Write,
+    Verb::Boards,
+    Verb::Board,
 ];
 
 impl Verb {
@@ -40,6 +64,7 @@ impl Verb {
             Verb::Help => "help",
             Verb::Listed => "listed",
             Verb::Grid => "grid",
+            Verb::Sum => "sum",
             Verb::Kind => "kind",
             Verb::Greys => "greys",
             Verb::Costs => "costs",
@@ -48,6 +73,17 @@ impl Verb {
             Verb::Floor => "floor",
             Verb::Encode => "encode",
             Verb::Decode => "decode",
+            Verb::Read => "read",
+            Verb::Begin => "begin",
+            Verb::Run => "run",
+            Verb::Trace => "trace",
+            Verb::Offer => "offer",
+            Verb::Propose => "propose",
+            Verb::Take => "take",
+            Verb::Verdict => "verdict",
+            Verb::Write => "write",
+            Verb::Boards => "boards",
+            Verb::Board => "board",
         }
     }
 
@@ -55,14 +91,22 @@ impl Verb {
     fn rest(self) -> &'static str {
         match self {
             Verb::Help | Verb::Choices | Verb::Floor => "",
+            Verb::Read | Verb::Begin | Verb::Verdict | Verb::Boards => "",
             Verb::Listed => " CELLS ends E.. entries C..",
             Verb::Grid => " A B",
+            Verb::Sum => " R..",
             Verb::Kind => " plain or kind paired",
             Verb::Greys => " G..",
             Verb::Costs => " C..",
-            Verb::Multipliers => " M..",
+            Verb::Multipliers | Verb::Offer => " M..",
             Verb::Encode => " WORD M..",
             Verb::Decode => " HEX",
+            Verb::Run => " COUNT constant S or run COUNT divided S",
+            Verb::Trace => " COUNT constant S or trace COUNT divided S",
+            Verb::Propose => " WORD",
+            Verb::Take => " HEX or take HEX work N",
+            Verb::Write => " or write N",
+            Verb::Board => " NAME V..",
         }
     }
 
@@ -73,8 +117,9 @@ impl Verb {
             Verb::Listed =>
                 "chooses a layout by where each row ends and the cells of all rows in order",
             Verb::Grid => "chooses a grid of A lines and B columns, each 2 to 11",
+            Verb::Sum => "adds a row, the sum of the rows R.. of the layout, before a reading begins",
             Verb::Kind =>
-                "chooses the kind of weights; another kind than before forgets costs and multipliers",
+                "chooses the kind of weights; another kind than before forgets costs, multipliers and the reading",
             Verb::Greys => "sets the costs by greys, 0 for black to 255 for white, one a cell",
             Verb::Costs =>
                 "sets the costs, one a cell, as -5 in kind plain and as -5,1 in kind paired",
@@ -83,6 +128,28 @@ impl Verb {
             Verb::Floor => "answers the slacks, the trial word and the floor",
             Verb::Encode => "answers the ticket of a word, as 110, and of multipliers, one an edge",
             Verb::Decode => "answers the word and the multipliers of a ticket",
+            _ => self.purpose_in_reading(),
+        }
+    }
+
+    // What a command does that begins a reading, or stands in one.
+    fn purpose_in_reading(self) -> &'static str {
+        match self {
+            Verb::Read =>
+                "reads the label: begins, and runs with smaller and smaller steps until the reading is met",
+            Verb::Begin => "begins a reading over the layout, its sums and the costs",
+            Verb::Run =>
+                "makes at most COUNT rounds of step S, or of S divided by the number of the round",
+            Verb::Trace => "runs, and says after each round what it came to",
+            Verb::Offer => "gives the reading multipliers, one an edge",
+            Verb::Propose => "gives the reading a word, as 110",
+            Verb::Take => "gives the reading a ticket, with a work list of one weight an edge or of N",
+            Verb::Verdict => "answers floor and ceiling, the rounds made, and whether they have met",
+            Verb::Write => "answers the ticket of a reading that is met, from an output of N bytes",
+            Verb::Boards => "answers the five boards of the reading",
+            Verb::Board =>
+                "replaces the board NAME, as boards names it; a reading with other boards than its own promises nothing",
+            _ => "",
         }
     }
 }

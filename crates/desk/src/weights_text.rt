@@ -43,3 +43,19 @@ impl<W: fmt::Display> fmt::Display for Spaced<'_, W> {
         Ok(())
     }
 }
+
+// A word, a digit a cell, behind a blank; nothing where there is no cell.
+#[derive(Drop)]
+pub struct Word<'a>(pub &'a [u8]);
+
+impl fmt::Display for Word<'_> {
+    fn fmt<F: fmt::Write>(&self, f: &mut fmt::Formatter<F>) -> fmt::Result {
+        if !self.0.is_empty() {
+            write!(f, " ")?;
+        }
+        for bit in self.0 {
+            write!(f, "{bit}")?;
+        }
+        Ok(())
+    }
+}

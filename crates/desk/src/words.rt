@@ -3,6 +3,7 @@ ghost use Rattle.std.specs.Prelude.{◌≡◌, ◌-◌, ◌^◌, ◌≤◌, min,
 ghost use Rattle.desk.specs.Digits.{Digits, said};
 
 use crate::fault::{Fault, Mistake};
+use layouts::RowNo;
 use std::alloc::Global;
 
 // Not `FromStr`: a number of any length is taken, and `u16` and `u8` read themselves otherwise.
@@ -63,6 +64,14 @@ impl FromWord for u16 {
     }
 }
 
+impl FromWord for RowNo {
+    fn from_word(word: &str) -> Result<RowNo, Mistake>
+        ensures { MatchResult result (λ row. Digits word.now × (row.0 ≡ min (said word.now) 65535)) (λ _. Digits word.now → ⊥) }
+    {
+        Ok(RowNo(u16::from_word(word)?))
+    }
+}
+
 // A byte is a grey.
 impl FromWord for u8 {
     fn from_word(word: &str) -> Result<u8, Mistake>
@@ -71,6 +80,15 @@ impl FromWord for u8 {
         let value = digits(word.as_bytes()).ok_or(Mistake::Grey)?;
         u8::try_from(value).map_err(|_| Mistake::Grey)
     }
+}
+
+// The cells of words, one behind the other.
+pub fn joined_cells(heap: Global, words: &[&str]) -> Result<Vec<u8>, Fault> {
+    let mut joined = Vec::new(heap);
+    for word in words {
+        joined.extend_from_slice(&cells(heap, word)?)?;
+    }
+    Ok(joined)
 }
 
 // The cells of a word, a digit each.
