@@ -42,7 +42,7 @@ from_lower : (low lower cells : ℕ) (row : List ℕ) → lower ≤ low → rise
 from_lower low lower cells [] l u = refl
 from_lower low lower cells (first ∷ row) l u = grind (arith, nat_tests)
 
-few_rising : (low cells : ℕ) (row : List ℕ) → low ≤ cells → rises_from low cells row ≡ true → low + length row ≤ cells
+pub few_rising : (low cells : ℕ) (row : List ℕ) → low ≤ cells → rises_from low cells row ≡ true → low + length row ≤ cells
 few_rising low cells [] l u = omega arith
 few_rising low cells (first ∷ row) l u =
     let f = first_rises low cells first row u in
