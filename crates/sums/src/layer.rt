@@ -1,5 +1,5 @@
 // A layout to which sums of its rows are added.
-ghost use Rattle.std.specs.Prelude.{◌≡◌};
+ghost use Rattle.std.specs.Prelude.{◌≡◌, ◌≤◌, length};
 ghost use Rattle.sums.specs.Names.{numbers};
 
 use layouts::{CellNo, Layout, RowNo};
@@ -53,7 +53,8 @@ impl<L: Layout> SumLayer<L> {
 
     // The sums that count.
     fn counted(&self) -> &[SumRow]
-        ensures { cells_of result.now ≡ counted (L.plan self.now.below) (added self.now) }
+        ensures few { length result.now ≤ 8 }
+        ensures cells { cells_of result.now ≡ counted (L.plan self.now.below) (added self.now) }
     {
         if self.keeps_limits() { self.sums.rows() } else { &[] }
     }

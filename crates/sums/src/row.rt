@@ -1,5 +1,5 @@
 // A row that is built up as a sum of rows.
-ghost use Rattle.std.specs.Prelude.{◌≡◌, true, [], ◌<◌, length};
+ghost use Rattle.std.specs.Prelude.{◌≡◌, true, [], ◌<◌, ◌≤◌, length};
 ghost use Rattle.sums.specs.Names.{numbers};
 ghost use Rattle.layouts.specs.Plans.{row_at};
 ghost use Rattle.layouts.specs.Lists.{row_rises};
@@ -26,8 +26,10 @@ impl Default for SumRow {
 }
 
 impl SumRow {
+    // The cells, at most 128.
     pub(crate) fn cells(&self) -> &[u8]
-        ensures { result.now ≡ self.now.cells.items }
+        ensures cells { result.now ≡ self.now.cells.items }
+        ensures few { length result.now ≤ 128 }
     {
         &self.cells
     }
