@@ -1,5 +1,5 @@
 -- Rising rows by their neighbours, and by their last number.
-use Rattle.std.proofs.Common.{◌≡◌, ℕ, zero, suc, ◌+◌, ◌-◌, ◌<◌, ◌≤◌, Bool, true, false, ◌&&◌, List, [], ◌∷◌, map, length, get_or, take, Some, refl, sym, ap, ◌∙◌, add-one, arith}
+use Rattle.std.proofs.Common.{◌≡◌, ℕ, ◌+◌, ◌-◌, ◌<◌, ◌≤◌, Bool, true, false, ◌&&◌, List, [], ◌∷◌, length, get_or, take, Some, sym, ap, ◌∙◌, arith}
 use Rattle.std.specs.Prelude.{nat_lt}
 use Rattle.std.specs.List.{IsAllAdjacentAnswer, list_all, slice_get}
 use Rattle.std.proofs.Math.ListN.{get_or-map}
@@ -34,14 +34,16 @@ numbers_rise rows r a = rises_by_neighbours (numbers rows) r (by_number r a)
         let next = get_or-map (λ (row : RowNo). row.0) rows (k + 1) e in
         let here = a k e (omega (arith, length-map rows (λ row. row.0))) in
         cc
-    by_number false a =
-        (a.0, omega (arith, a.1, length-map rows (λ row. row.0)),
-        λ d.
-            let e : RowNo = record { 0 = d } in
-            let one = get_or-map (λ (row : RowNo). row.0) rows a.0 e in
-            let next = get_or-map (λ (row : RowNo). row.0) rows (a.0 + 1) e in
-            let here = a.2 e in
-            cc)
+    by_number false a = (
+      a.0,
+      omega (arith, a.1, length-map rows (λ row. row.0)),
+      λ d.
+          let e : RowNo = record { 0 = d } in
+          let one = get_or-map (λ (row : RowNo). row.0) rows a.0 e in
+          let next = get_or-map (λ (row : RowNo). row.0) rows (a.0 + 1) e in
+          let here = a.2 e in
+          cc,
+    )
 
 -- at least one number, the numbers rise, and all are below
 pub named_by_parts : (rows : List RowNo) (count : ℕ)

@@ -2,12 +2,11 @@
 ghost use Rattle.std.specs.Prelude.{◌≡◌, ◌≤◌, length};
 ghost use Rattle.sums.specs.Names.{numbers};
 
-use layouts::{CellNo, Layout, RowNo};
-use refusals::Refusal;
-
 use crate::names::are_some_rising;
 use crate::row::SumRow;
 use crate::table::{SumTable, all_fit, edges_of};
+use layouts::{CellNo, Layout, RowNo};
+use refusals::Refusal;
 
 #[derive(Drop)]
 pub struct SumLayer<L> {
@@ -56,7 +55,11 @@ impl<L: Layout> SumLayer<L> {
         ensures few { length result.now ≤ 8 }
         ensures cells { cells_of result.now ≡ counted (L.plan self.now.below) (added self.now) }
     {
-        if self.keeps_limits() { self.sums.rows() } else { &[] }
+        if self.keeps_limits() {
+            self.sums.rows()
+        } else {
+            &[]
+        }
     }
 
     // Adds the sum of the named rows of the layout below, or leaves the layer as it was.

@@ -7,9 +7,8 @@ ghost use Rattle.layouts.specs.Plans.{edges};
 ghost use Rattle.sums.specs.Sums.{some_rising};
 ghost use Rattle.sums.specs.Tables.{cells_of, LendsNewSum};
 
-use arrayvec::ArrayVec;
-
 use crate::row::SumRow;
+use arrayvec::ArrayVec;
 
 #[derive(Drop)]
 pub(crate) struct SumTable {
