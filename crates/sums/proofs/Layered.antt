@@ -1,22 +1,19 @@
 -- Adding sums of rows leaves the cells and the codewords as they were.
-use Rattle.std.proofs.Common.{◌≡◌, ℕ, ◌+◌, ◌<◌, ◌≤◌, Bool, true, false, cond, ◌&&◌, List, [], ◌∷◌, ◌++◌, length, Ok, Err, Result, refl, sym, ap, ◌∙◌, subst, arith}
+use Rattle.std.proofs.Common.{◌≡◌, ℕ, ◌+◌, Bool, true, false, cond, ◌&&◌, List, [], ◌∷◌, ◌++◌, length, Ok, Err, Result, refl, sym, ap, ◌∙◌, subst, arith}
 use Rattle.std.specs.Prelude.{nat_le, nat_lt}
-use Rattle.std.specs.List.{list_all}
 use Rattle.std.proofs.lemmas.List.{length-append}
 use Rattle.std.proofs.lemmas.List.Folds.{list_all-append}
 use Rattle.std.proofs.lemmas.Bool.{and_parts, and_from, le-leb, leb-true, ltb-true}
-use Rattle.std.proofs.lemmas.Bool.Decides.{nat_tests}
 use Rattle.refusals.specs.Numbers.{or_else}
 use Rattle.refusals.specs.declared.Refusal.{Refusal}
-use Rattle.refusals.proofs.Counted.{counted as no_zero}
-use Rattle.layouts.specs.Plans.{Plan, edges, edges_append, row_at}
+use Rattle.layouts.specs.Plans.{Plan, edges, edges_append}
 use Rattle.layouts.specs.Lists.{row_rises}
-use Rattle.dual.specs.Bound.{meets, codeword}
+use Rattle.dual.specs.Bound.{codeword}
 use Rattle.sums.specs.declared.layer.SumLayer.{SumLayer}
 use Rattle.sums.specs.Sums.{row_sum, some_rising, add_refusal, keeps_limits, counted}
 use Rattle.sums.specs.SumPlan.{none_keeps, limits}
-use Rattle.sums.specs.Layers.{added, layer_plan, IsNew, AddDoes, Layered, new_layer, one_more}
-use Rattle.sums.specs.Laws.{SameCodewords, LayersKeepCodewords}
+use Rattle.sums.specs.Layers.{added, layer_plan, AddDoes, Layered, new_layer, one_more}
+use Rattle.sums.specs.Laws.{LayersKeepCodewords}
 use Rattle.sums.proofs.Odds.{with_rows_rises, sum_met}
 
 codeword_append : (xs ys : List (List ℕ)) (x : List Bool) → codeword (xs ++ ys) x ≡ (codeword xs x && codeword ys x)

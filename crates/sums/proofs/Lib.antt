@@ -1,3 +1,4 @@
 pub mod Toggles
+pub mod Rising
 pub mod Odds
 pub mod Layered

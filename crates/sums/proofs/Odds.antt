@@ -1,15 +1,14 @@
 -- Rows toggled one after another: a cell, and a dark cell of a word, counts by the rows that have it.
-use Rattle.std.proofs.Common.{◌≡◌, ℕ, zero, suc, ◌+◌, ◌<◌, ◌≤◌, Bool, true, false, not, ◌&&◌, ◌||◌, List, [], ◌∷◌, ◌++◌, map, length, get_or, refl, sym, ap, ◌∙◌, ⊎_elim, add-one, arith}
-use Rattle.std.specs.Prelude.{nat_le, nat_lt, nat_eq}
+use Rattle.std.proofs.Common.{◌≡◌, ℕ, zero, suc, ◌+◌, ◌<◌, ◌≤◌, Bool, true, false, List, [], ◌∷◌, map, length, get_or, refl, ap, ◌∙◌, ⊎_elim, add-one, arith}
 use Rattle.std.proofs.lemmas.List.{get_or_past}
-use Rattle.std.proofs.lemmas.Bool.{and_parts, cases_lt, cases_Bool}
+use Rattle.std.proofs.lemmas.Bool.{and_parts, cases_lt}
 use Rattle.std.proofs.lemmas.Bool.Decides.{nat_tests}
 use Rattle.layouts.specs.Plans.{Plan, row_at}
 use Rattle.layouts.specs.Lists.{rises_from, row_rises}
 use Rattle.dual.specs.Choice.{xor, odd}
 use Rattle.dual.specs.Bound.{at, meets, codeword}
 use Rattle.sums.specs.Sums.{toggled, with_row, with_rows, row_sum}
-use Rattle.sums.specs.Laws.{has, OddSum, SumHasOddCells}
+use Rattle.sums.specs.Laws.{has, SumHasOddCells}
 use Rattle.sums.proofs.Toggles.{first_rises, absent, still_rises, has_toggled, odd_toggled}
 
 -- ---- the rows of a layout rise

@@ -1,12 +1,11 @@
 -- A cell toggled in a rising row.
-use Rattle.std.proofs.Common.{◌≡◌, ℕ, zero, suc, ◌+◌, ◌<◌, ◌≤◌, Bool, true, false, not, ◌&&◌, ◌||◌, List, [], ◌∷◌, length, get_or, Ok, Err, refl, sym, ap, ⊎_elim, arith}
-use Rattle.std.specs.Prelude.{nat_le, nat_lt, nat_eq, insert, remove}
-use Rattle.std.specs.List.{list_any}
+use Rattle.std.proofs.Common.{◌≡◌, ℕ, zero, suc, ◌+◌, ◌<◌, ◌≤◌, Bool, true, false, List, [], ◌∷◌, length, get_or, Ok, Err, refl, ap, ◌∙◌, ⊎_elim, arith}
+use Rattle.std.specs.Prelude.{nat_eq, insert, remove}
 use Rattle.std.specs.List.Sorted.{IsBinarySearchResult}
 use Rattle.std.specs.Ordering.{nat_cmp}
 use Rattle.std.proofs.lemmas.List.Sorted.{searched}
 use Rattle.std.proofs.lemmas.List.Edits.{length-insert}
-use Rattle.std.proofs.lemmas.Bool.{and_parts, leb-true, le-leb, cases_lt, cases_Bool}
+use Rattle.std.proofs.lemmas.Bool.{cases_lt}
 use Rattle.std.proofs.lemmas.Bool.Decides.{nat_tests}
 use Rattle.layouts.specs.Lists.{rises_from, row_rises}
 use Rattle.dual.specs.Choice.{xor, odd}
@@ -42,7 +41,7 @@ from_lower : (low lower cells : ℕ) (row : List ℕ) → lower ≤ low → rise
 from_lower low lower cells [] l u = refl
 from_lower low lower cells (first ∷ row) l u = grind (arith, nat_tests)
 
-few_rising : (low cells : ℕ) (row : List ℕ) → low ≤ cells → rises_from low cells row ≡ true → low + length row ≤ cells
+pub few_rising : (low cells : ℕ) (row : List ℕ) → low ≤ cells → rises_from low cells row ≡ true → low + length row ≤ cells
 few_rising low cells [] l u = omega arith
 few_rising low cells (first ∷ row) l u =
     let f = first_rises low cells first row u in
@@ -84,7 +83,10 @@ still_rises low cells (first ∷ row) cell l h u =
     (λ (n : cell ≤ first). grind (arith, nat_tests)) (cases_lt first cell))
     (cases_lt cell first)
 
-pub room : (cells : ℕ) (row : List ℕ) (cell i : ℕ) → row_rises cells row ≡ true → cell < cells → i ≤ length row
+pub still_rising : (row next : List ℕ) (cell : ℕ) → next ≡ toggled row cell → cell < 128 → row_rises 128 row ≡ true → row_rises 128 next ≡ true
+still_rising row next cell e h u = ap (row_rises 128) e ∙ still_rises 0 128 row cell (omega arith) h u
+
+room : (cells : ℕ) (row : List ℕ) (cell i : ℕ) → row_rises cells row ≡ true → cell < cells → i ≤ length row
     → insert row i cell ≡ toggled row cell → length row < cells
 room cells row cell i u h l e =
     let few = few_rising 0 cells (toggled row cell) (omega arith) (still_rises 0 cells row cell (omega arith) h u) in

@@ -1,3 +1,4 @@
+pub mod Names
 pub mod Sums
 pub mod SumPlan
 pub mod Tables

@@ -1,12 +1,11 @@
 -- The plan of a layout and rows that are added to it.
-use Rattle.std.specs.Prelude.{◌≡◌, ℕ, zero, suc, ◌+◌, ◌-◌, ◌<◌, ◌≤◌, Bool, true, false, cond, ◌&&◌, List, [], ◌∷◌, ◌++◌, length, nat_le, nat_lt, slice_index, refl}
-use Rattle.std.proofs.Common.{sym, ap, ◌∙◌, inl, inr, add-one, arith}
+use Rattle.std.specs.Prelude.{◌≡◌, ℕ, zero, suc, ◌+◌, ◌-◌, ◌<◌, ◌≤◌, true, List, [], ◌∷◌, ◌++◌, length, nat_le, nat_lt, slice_index, refl}
+use Rattle.std.proofs.Common.{ap, ◌∙◌, inl, inr, add-one, arith}
 use Rattle.std.specs.List.{list_all}
 use Rattle.std.proofs.lemmas.List.{length-append, get_or_append_left, get_or-append_right}
-use Rattle.std.proofs.lemmas.Bool.{and_parts, and_from, ltb-true, leb-true, cases_lt, cond_both}
+use Rattle.std.proofs.lemmas.Bool.{and_parts, ltb-true, leb-true, cases_lt, cond_both}
 use Rattle.std.proofs.lemmas.Bool.Decides.{nat_tests}
-use Rattle.layouts.specs.Plans.{Plan, edge_cells, edges, edges_append, row_at}
-use Rattle.layouts.specs.Lists.{row_rises}
+use Rattle.layouts.specs.Plans.{Plan, edges, edges_append, row_at}
 use Rattle.layouts.specs.ListPlan.{cell_below, cells_rise}
 use Rattle.sums.specs.Sums.{some_rising, keeps_limits, counted}
 

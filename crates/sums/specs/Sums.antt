@@ -1,5 +1,5 @@
 -- Rows that are sums of rows: which cells a sum has, and when it cannot be added.
-use Rattle.std.specs.Prelude.{ℕ, ◌+◌, Bool, true, false, cond, ◌&&◌, List, [], ◌∷◌, ◌++◌, map, length, ◌==◌, nat_le, nat_lt, fold}
+use Rattle.std.specs.Prelude.{ℕ, ◌+◌, Bool, cond, ◌&&◌, List, [], ◌∷◌, length, ◌==◌, nat_le, nat_lt, fold}
 use Rattle.std.specs.List.{list_all}
 use Rattle.refusals.specs.Numbers.{or_else}
 use Rattle.layouts.specs.Plans.{Plan, edges, row_at}

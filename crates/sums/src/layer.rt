@@ -1,24 +1,17 @@
 // A layout to which sums of its rows are added.
-ghost use Rattle.std.specs.Prelude.{◌≡◌, map};
-ghost use Rattle.sums.specs.Sums.{some_rising};
+ghost use Rattle.std.specs.Prelude.{◌≡◌, ◌≤◌, length};
+ghost use Rattle.sums.specs.Names.{numbers};
 
+use crate::names::are_some_rising;
+use crate::row::SumRow;
+use crate::table::{SumTable, all_fit, edges_of};
 use layouts::{CellNo, Layout, RowNo};
 use refusals::Refusal;
-
-use crate::row::SumRow;
-use crate::table::{SumTable, edges_of};
 
 #[derive(Drop)]
 pub struct SumLayer<L> {
     below: L,
     sums: SumTable,
-}
-
-// At least one row, each below the count and above the one before it.
-fn are_some_rising(rows: &[RowNo], count: u16) -> bool
-    ensures { result ≡ some_rising count (map (λ row. row.0) rows.now) }
-{
-    !rows.is_empty() && rows.is_sorted_by(|a, b| a.0 < b.0) && rows.iter().all(|row| row.0 < count)
 }
 
 impl<L> SumLayer<L> {
@@ -52,22 +45,26 @@ impl<L: Layout> SumLayer<L> {
         ensures { result ≡ keeps_limits (L.plan self.now.below) (added self.now) }
     {
         let sums = self.sums.rows();
-        let cells = self.below.cells();
-        usize::from(self.below.rows()) + sums.len() <= 96
-            && usize::from(self.below.edges()) + edges_of(sums) <= 1024
-            && sums.iter().all(|sum| sum.fits(cells))
+        let rows = usize::from(self.below.rows()) + sums.len();
+        let edges = usize::from(self.below.edges()) + edges_of(sums);
+        rows <= 96 && edges <= 1024 && all_fit(sums, self.below.cells())
     }
 
     // The sums that count.
     fn counted(&self) -> &[SumRow]
-        ensures { cells_of result.now ≡ counted (L.plan self.now.below) (added self.now) }
+        ensures few { length result.now ≤ 8 }
+        ensures cells { cells_of result.now ≡ counted (L.plan self.now.below) (added self.now) }
     {
-        if self.keeps_limits() { self.sums.rows() } else { &[] }
+        if self.keeps_limits() {
+            self.sums.rows()
+        } else {
+            &[]
+        }
     }
 
     // Adds the sum of the named rows of the layout below, or leaves the layer as it was.
     pub fn add(&mut self, rows: &[RowNo]) -> Result<(), Refusal>
-        ensures { AddDoes L.plan (map (λ row. row.0) rows.now) self.old result self.new }
+        ensures { AddDoes L.plan (numbers rows.now) self.old result self.new }
     {
         let below = self.below.rows();
         let sums = self.sums.rows();

@@ -4,6 +4,7 @@
 ghost use Rattle.sums.specs.Laws.{SumHasOddCells, LayersKeepCodewords};
 
 mod layer;
+mod names;
 mod row;
 mod table;
 

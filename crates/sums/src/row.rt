@@ -1,5 +1,6 @@
 // A row that is built up as a sum of rows.
-ghost use Rattle.std.specs.Prelude.{◌≡◌, true, [], ◌<◌, length, map, fold};
+ghost use Rattle.std.specs.Prelude.{◌≡◌, true, [], ◌<◌, ◌≤◌, length};
+ghost use Rattle.sums.specs.Names.{numbers};
 ghost use Rattle.layouts.specs.Plans.{row_at};
 ghost use Rattle.layouts.specs.Lists.{row_rises};
 ghost use Rattle.sums.specs.Sums.{toggled, with_row, with_rows, some_rising};
@@ -25,8 +26,10 @@ impl Default for SumRow {
 }
 
 impl SumRow {
+    // The cells, at most 128.
     pub(crate) fn cells(&self) -> &[u8]
-        ensures { result.now ≡ self.now.cells.items }
+        ensures cells { result.now ≡ self.now.cells.items }
+        ensures few { length result.now ≤ 128 }
     {
         &self.cells
     }
@@ -35,7 +38,10 @@ impl SumRow {
     pub(crate) fn fits(&self, cells: u16) -> bool
         ensures { result ≡ some_rising cells self.now.cells.items }
     {
-        self.cells.last().is_some_and(|&last| u16::from(last) < cells)
+        let Some(last) = self.cells.last() else {
+            return false;
+        };
+        u16::from(*last) < cells
     }
 
     // Takes the cell out where it is in, and puts it in its place where it is not.
@@ -66,8 +72,8 @@ impl SumRow {
 
     // Adds the named rows, one after another.
     pub(crate) fn add_rows<L: Layout>(&mut self, layout: &L, rows: &[RowNo])
-        requires { row_rises (length (L.plan layout.now).rows) (map (λ row. row.0) rows.now) ≡ true }
-        ensures { self.new.cells.items ≡ with_rows (L.plan layout.now).rows self.old.cells.items (map (λ row. row.0) rows.now) }
+        requires { row_rises (length (L.plan layout.now).rows) (numbers rows.now) ≡ true }
+        ensures { self.new.cells.items ≡ with_rows (L.plan layout.now).rows self.old.cells.items (numbers rows.now) }
     {
         for row in rows {
             self.add_row(layout, *row);

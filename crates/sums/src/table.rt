@@ -1,13 +1,14 @@
 // The sums that were added to a layout.
 ghost use Rattle.std.specs.Prelude.{◌≡◌, [], ◌<◌, ◌-◌, ◌*◌, ◌≤◌, length, take};
+ghost use Rattle.std.specs.List.{list_all};
 ghost use Rattle.std.specs.Borrow.{sem};
 ghost use Rattle.arrayvec.specs.ArrayVec.{array_vec_len};
 ghost use Rattle.layouts.specs.Plans.{edges};
+ghost use Rattle.sums.specs.Sums.{some_rising};
 ghost use Rattle.sums.specs.Tables.{cells_of, LendsNewSum};
 
-use arrayvec::ArrayVec;
-
 use crate::row::SumRow;
+use arrayvec::ArrayVec;
 
 #[derive(Drop)]
 pub(crate) struct SumTable {
@@ -23,8 +24,10 @@ impl SumTable {
         }
     }
 
+    // The rows, at most 8.
     pub(crate) fn rows(&self) -> &[SumRow]
-        ensures { result.now ≡ self.now.rows.items }
+        ensures rows { result.now ≡ self.now.rows.items }
+        ensures few { length result.now ≤ 8 }
     {
         &self.rows
     }
@@ -51,11 +54,19 @@ impl SumTable {
 // The cells of all rows together.
 pub(crate) fn edges_of(rows: &[SumRow]) -> usize
     requires { length rows.now ≤ 8 }
-    ensures { result ≡ edges (cells_of rows.now) }
+    ensures edges { result ≡ edges (cells_of rows.now) }
+    ensures few { result ≤ 1024 }
 {
     let mut edges = 0;
     for row in rows {
         edges += row.cells().len();
     }
     edges
+}
+
+// Whether each row is one of a layout with so many cells.
+pub(crate) fn all_fit(rows: &[SumRow], cells: u16) -> bool
+    ensures { result ≡ list_all (λ row. some_rising cells row.cells.items) rows.now }
+{
+    rows.iter().all(|row| row.fits(cells))
 }
