@@ -58,6 +58,6 @@ impl Chosen {
     }
 
     pub fn keep_sum(&mut self, rows: Vec<RowNo>) -> Result<(), AllocError> {
-        self.sums.push(rows)
+        self.sums.push(rows).map_err(|_| AllocError)
     }
 }

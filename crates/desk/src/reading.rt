@@ -74,15 +74,15 @@ impl<W: Shown> Session<W> {
             let made = self.run(count, rule)?;
             return Ok(answers::ran(self.heap, made)?);
         }
-        let mut made = 0u32;
+        let before = self.verdict()?.rounds;
         for _round in 0..count {
             if self.run(1, rule)? == 0 {
                 break;
             }
-            made += 1;
             let line = answers::traced(self.heap, &self.verdict()?, &self.boards.trial)?;
             text.push_str(&line)?;
         }
+        let made = self.verdict()?.rounds.saturating_sub(before);
         text.push_str(&answers::ran(self.heap, made)?)?;
         Ok(text)
     }
