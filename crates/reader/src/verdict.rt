@@ -22,10 +22,11 @@ impl<L, W: Weight> Reading<L, W> {
     pub fn verdict(&self) -> Verdict<W>
         ensures { VerdictDoes W.kind self.now result }
     {
+        let progress = self.progress();
         Verdict {
-            bounds: (self.floor, self.ceiling),
-            rounds: self.rounds,
-            met: self.progress().is_met(),
+            bounds: (progress.floor, progress.ceiling),
+            rounds: progress.rounds,
+            met: progress.is_met(),
         }
     }
 }
