@@ -98,3 +98,9 @@ edges_one_more sums i sum h is =
     let here : row_at (cells_of sums) i ≡ sum.cells.items = get_or_map (λ s. s.cells.items) sums i sum [] h ∙ ap (λ (s : SumRow). s.cells.items) (sym is) in
     let few = few_rising 0 128 sum.cells.items (omega arith) sum.rising in
     (omega (arith, ap length here), omega arith)
+
+pub count_of_cells : (sums : List SumRow) → length (cells_of sums) ≡ length sums
+count_of_cells sums = length-map sums (λ sum. sum.cells.items)
+
+pub fitting_cells : (cells : ℕ) (sums : List SumRow) → list_all (some_rising cells) (cells_of sums) ≡ list_all (λ sum. some_rising cells sum.cells.items) sums
+fitting_cells cells sums = list_all-map (some_rising cells) (λ sum. sum.cells.items) sums

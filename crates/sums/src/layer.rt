@@ -41,6 +41,7 @@ impl<L: Layout> SumLayer<L> {
     ghost use Rattle.sums.specs.Tables.{cells_of};
 
     // Whether the rows below and the sums keep the limits of a layout, as they always do after `add`.
+    #[tactic(auto, using(crate::proofs::Rising::count_of_cells, crate::proofs::Rising::fitting_cells))]
     fn keeps_limits(&self) -> bool
         ensures { result ≡ keeps_limits (L.plan self.now.below) (added self.now) }
     {
@@ -99,6 +100,7 @@ impl<L: Layout> Layout for SumLayer<L> {
         self.below.rows() + self.counted().len() as u16
     }
 
+    #[tactic(auto, using(layouts::specs::Plans::edges_append))]
     fn edges(&self) -> u16 {
         self.below.edges() + edges_of(self.counted()) as u16
     }

@@ -22,6 +22,7 @@ fn all_below(rows: &[RowNo], count: u16) -> bool
 }
 
 // At least one row, each below the count and above the one before it.
+#[tactic(auto, using(crate::proofs::Rising::named_by_parts))]
 pub(crate) fn are_some_rising(rows: &[RowNo], count: u16) -> bool
     ensures { result ≡ some_rising count (numbers rows.now) }
 {

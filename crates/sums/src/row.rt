@@ -35,6 +35,7 @@ impl SumRow {
     }
 
     // Whether it is a row of a layout with so many cells.
+    #[tactic(auto, using(crate::proofs::Rising::fits_by_last))]
     pub(crate) fn fits(&self, cells: u16) -> bool
         ensures { result ≡ some_rising cells self.now.cells.items }
     {
@@ -71,6 +72,7 @@ impl SumRow {
     }
 
     // Adds the named rows, one after another.
+    #[tactic(auto, using(crate::proofs::Rising::named_below))]
     pub(crate) fn add_rows<L: Layout>(&mut self, layout: &L, rows: &[RowNo])
         requires { row_rises (length (L.plan layout.now).rows) (numbers rows.now) ≡ true }
         ensures { self.new.cells.items ≡ with_rows (L.plan layout.now).rows self.old.cells.items (numbers rows.now) }
