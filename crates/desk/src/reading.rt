@@ -1,12 +1,11 @@
 // What is asked of a reading.
-use crate::answers;
 use crate::boards::Boards;
 use crate::command::Action;
 use crate::fault::{Fault, Mistake};
 use crate::session::Session;
 use crate::shape::Shape;
 use crate::weights_text::Shown;
-use crate::words;
+use crate::{answers, words};
 use layouts::Layout;
 use reader::{Reading, StepRule, Verdict};
 use sums::SumLayer;
@@ -29,7 +28,10 @@ impl<W: Shown> Session<W> {
             }
             Action::Verdict => return Ok(answers::verdict(self.heap, &self.verdict()?)?),
             Action::Write(room) => {
-                let room = room.map_or(tickets::ticket_len::<SumLayer<Shape>, W>(&layer), usize::from);
+                let room = room.map_or(
+                    tickets::ticket_len::<SumLayer<Shape>, W>(&layer),
+                    usize::from,
+                );
                 return self.write(room);
             }
         }

@@ -117,7 +117,8 @@ impl Verb {
             Verb::Listed =>
                 "chooses a layout by where each row ends and the cells of all rows in order",
             Verb::Grid => "chooses a grid of A lines and B columns, each 2 to 11",
-            Verb::Sum => "adds a row, the sum of the rows R.. of the layout, before a reading begins",
+            Verb::Sum =>
+                "adds a row, the sum of the rows R.. of the layout, before a reading begins",
             Verb::Kind =>
                 "chooses the kind of weights; another kind than before forgets costs, multipliers and the reading",
             Verb::Greys => "sets the costs by greys, 0 for black to 255 for white, one a cell",
@@ -143,8 +144,10 @@ impl Verb {
             Verb::Trace => "runs, and says after each round what it came to",
             Verb::Offer => "gives the reading multipliers, one an edge",
             Verb::Propose => "gives the reading a word, as 110",
-            Verb::Take => "gives the reading a ticket, with a work list of one weight an edge or of N",
-            Verb::Verdict => "answers floor and ceiling, the rounds made, and whether they have met",
+            Verb::Take =>
+                "gives the reading a ticket, with a work list of one weight an edge or of N",
+            Verb::Verdict =>
+                "answers floor and ceiling, the rounds made, and whether they have met",
             Verb::Write => "answers the ticket of a reading that is met, from an output of N bytes",
             Verb::Boards => "answers the five boards of the reading",
             Verb::Board =>

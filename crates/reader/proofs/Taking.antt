@@ -14,7 +14,7 @@ use Rattle.tickets.specs.Tickets.{counts, write_refusal as writing_refusal}
 use Rattle.model.specs.Words.{bits}
 use Rattle.model.specs.Model.{Model, met, equal, floor_of, cost_of, passes, raised_to, lowered_to, raised, improved}
 use Rattle.model.specs.Calls.{boards_refusal, form_refusal, take_refusal, take_after, work_after, ticket_of, write_refusal}
-use Rattle.model.proofs.Orders.{no_reason, passing}
+use Rattle.model.proofs.Orders.{no_reason}
 use Rattle.model.proofs.Boards.{same_long, fits}
 use Rattle.reader.proofs.Rounds.{improved_by}
 

@@ -1,4 +1,4 @@
-use Rattle.std.proofs.Common.{◌^◌, ◌≤◌, sym, ◌∙◌, arith}
+use Rattle.std.proofs.Common.{sym, ◌∙◌, arith}
 use Rattle.reader.proofs.Fits.{costs_total}
 use Rattle.reader.proofs.Rounds.{improved_by, improved_not}
 use Rattle.reader.proofs.reading.Progress.improve.Goals as goal

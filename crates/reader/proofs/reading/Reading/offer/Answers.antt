@@ -1,4 +1,4 @@
-use Rattle.std.proofs.Common.{◌≡◌, length, sym, ap, ◌∙◌, subst, arith}
+use Rattle.std.proofs.Common.{◌≡◌, length, sym, ◌∙◌, subst, arith}
 use Rattle.layouts.specs.Plans.{edges}
 use Rattle.reader.specs.Boards.{Fit}
 use Rattle.reader.specs.Calls.{boards, state, view}

@@ -1,4 +1,4 @@
-use Rattle.std.proofs.Common.{◌≡◌, sym, ◌∙◌, rules}
+use Rattle.std.proofs.Common.{sym, ◌∙◌, rules}
 use Rattle.reader.specs.Calls.{boards, state, view}
 use Rattle.reader.proofs.Taking.{why_written, both}
 use Rattle.reader.proofs.reading.Reading.write.Goals as goal
