@@ -162,7 +162,7 @@ fn decoding<'a>(heap: Global, rest: &[&str]) -> Result<Query<'a>, Fault> {
     let [digits] = rest else {
         return Err(Fault::from(Mistake::Form(Verb::Decode)));
     };
-    Ok(Query::Decode(hex::decode(heap, *digits)?))
+    Ok(Query::Decode(words::hex_bytes(heap, digits)?))
 }
 
 fn board<'a>(rest: &'a [&'a str]) -> Result<Setting<'a>, Fault> {
@@ -208,6 +208,6 @@ fn taking<'a>(heap: Global, rest: &[&str]) -> Result<Action<'a>, Fault> {
         [digits, "work", room] => (digits, Some(u16::from_word(room)?)),
         _ => return Err(Fault::from(Mistake::Form(Verb::Take))),
     };
-    let ticket = hex::decode(heap, *digits)?;
+    let ticket = words::hex_bytes(heap, digits)?;
     Ok(Action::Take { ticket, work })
 }

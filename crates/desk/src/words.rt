@@ -100,3 +100,12 @@ pub fn cells(heap: Global, word: &str) -> Result<Vec<u8>, Fault> {
         })
         .try_collect(heap)
 }
+
+// The bytes that pairs of hexadecimal digits say. All digits are looked at first, so that a word with anything else takes no
+// memory, however long it is.
+pub fn hex_bytes(heap: Global, word: &str) -> Result<Vec<u8>, Fault> {
+    if !word.bytes().all(|byte| byte.is_ascii_hexdigit()) {
+        return Err(Fault::from(Mistake::Hex));
+    }
+    Ok(hex::decode(heap, word)?)
+}

@@ -1,6 +1,7 @@
 -- One step of a walk over a row, over the edges or over the rows: what a loop adds to what it has, and what it has at the end.
-use Rattle.std.proofs.Common.{◌≡◌, ℕ, zero, suc, ◌+◌, ◌<◌, ◌≤◌, Bool, true, false, not, ◌&&◌, List, [], ◌∷◌, ◌++◌, length, get_or, take, drop, ℤ, pos, ◌+ℤ◌, ◌-ℤ◌, nat_abs, Some, None, Option, sym, refl, ap, ◌∙◌, subst, append_assoc, append-nil, arith}
-use Rattle.std.proofs.lemmas.List.{take_more, take_at, take-append-drop, drop_at, drop-drop, drop_more, length-append, length-drop, length-set, length-take, map_more}
+use Rattle.std.proofs.Common.{◌≡◌, ℕ, zero, suc, ◌+◌, ◌<◌, ◌≤◌, Bool, true, false, not, ◌&&◌, List, [], ◌∷◌, ◌++◌, length, get_or, take, drop, ℤ, pos, negsuc, ◌+ℤ◌, ◌-ℤ◌, nat_abs, Some, None, fold, Option, sym, refl, ap, ◌∙◌, subst, append_assoc, append-nil, arith}
+use lib.Signed.{lt_z}
+use Rattle.std.proofs.lemmas.List.{take_all, take_more, take_at, take-append-drop, drop_at, drop_all, drop-drop, drop_more, length-append, length-drop, length-set, length-take, map_more}
 use Rattle.std.proofs.lemmas.Int.{ints}
 use Rattle.std.proofs.lemmas.Bool.{cond_both}
 use Rattle.layouts.specs.Plans.{edge_cells, edges, edges_append, row_at}
@@ -12,6 +13,9 @@ use Rattle.dual.proofs.Search.{found}
 use Rattle.dual.proofs.Row.{Smallest, toggle_smallest, cheapest}
 
 -- ---- the search
+pub negative_is : (m : ℤ) → negative m ≡ lt_z m (pos 0)
+negative_is (pos n) = omega (arith, ints)
+negative_is (negsuc n) = refl
 
 pub look_yes : (t : Bool) (i : ℕ) (o : Option Spot) (m : ℤ) → negative m ≡ t → look t (i, o) m ≡ (i + 1, nearer o (i, nat_abs m))
 look_yes t i o m e = grind arith
@@ -19,12 +23,21 @@ look_yes t i o m e = grind arith
 pub look_no : (t : Bool) (i : ℕ) (o : Option Spot) (m : ℤ) → negative m ≡ not t → look t (i, o) m ≡ (i + 1, o)
 look_no t i o m e = grind arith
 
+pub look_all : (t : Bool) (ms : List ℤ) (i : ℕ) (o : Option Spot) → length ms ≤ i → fold (look t) (0, None) (take i ms) ≡ (i, o) → o ≡ nearest t ms
+look_all t ms i o l e = sym (ap (λ (s : ℕ × Option Spot). s.1) (rw (take_all i ms l) at e))
+
 module _ (t : Bool) (ms : List ℤ) (p : Spot) (e : nearest t ms ≡ Some p) where
   pub is_nearest : Nearest t ms (Some p)
   is_nearest = subst (Nearest t ms) e (found t ms)
 
+  pub nearest_within : p.0 < length ms
+  nearest_within = is_nearest.0
+
   pub nearest_sign : negative (get_or ms p.0 (pos 0)) ≡ t
   nearest_sign = is_nearest.1
+
+  pub nearest_size : nat_abs (get_or ms p.0 (pos 0)) ≡ p.1
+  nearest_size = is_nearest.2
 
 -- ---- the choice
 -- the place is that of a spot, and the spots are found within the row
@@ -58,6 +71,9 @@ odd_more ms i h = ap odd (negatives_more ms i h) ∙ odd_push (negatives (take i
 pub slacks_more : (es : List ℕ) (ms cs : List ℤ) (i : ℕ) → i < length es → i < length ms → slacks (drop (i + 1) es) (drop (i + 1) ms) (lowered cs (get_or es i 0) (get_or ms i (pos 0))) ≡ slacks (drop i es) (drop i ms) cs
 slacks_more es ms cs i h k = rw (drop_more es i 0 h, drop_more ms i (pos 0) k)
 
+pub slacks_all : (es : List ℕ) (ms cs : List ℤ) (i : ℕ) → length es ≤ i → slacks (drop i es) ms cs ≡ cs
+slacks_all es ms cs i h = rw (drop_all i es h)
+
 pub length_slacks : (es : List ℕ) (ms cs : List ℤ) → length (slacks es ms cs) ≡ length cs
 length_slacks [] ms cs = refl
 length_slacks (e ∷ es) [] cs = refl
@@ -66,6 +82,9 @@ length_slacks (e ∷ es) (m ∷ ms) cs = length_slacks es ms (lowered cs e m) �
 -- ---- sums over marked places
 pub pick_more : (bs : List Bool) (ms : List ℤ) (i : ℕ) (b : Bool) → i < length bs → i < length ms → get_or bs i false ≡ b → pick (drop i bs) (drop i ms) ≡ taken b (get_or ms i (pos 0)) +ℤ pick (drop (i + 1) bs) (drop (i + 1) ms)
 pick_more bs ms i b h k e = rw (drop_more bs i false h, drop_more ms i (pos 0) k, e)
+
+pub pick_all : (bs : List Bool) (ms : List ℤ) (i : ℕ) → length bs ≤ i → pick (drop i bs) ms ≡ pos 0
+pick_all bs ms i h = rw (drop_all i bs h)
 
 -- both fronts one longer
 pub pick_push : (bs : List Bool) (ms : List ℤ) (i : ℕ) → i < length bs → i < length ms → pick (take (i + 1) bs) (take (i + 1) ms) ≡ pick (take i bs) (take i ms) +ℤ taken (get_or bs i false) (get_or ms i (pos 0))

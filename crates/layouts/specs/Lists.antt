@@ -43,6 +43,11 @@ abbrev pub rises_from : ℕ → ℕ → List ℕ → Bool
 rises_from low cells [] = true
 rises_from low cells (cell ∷ row) = nat_le low cell && (nat_lt cell cells && rises_from (cell + 1) cells row)
 
+-- each cell of a row after the first is below the cell count and above the one before it
+abbrev pub rises_below : ℕ → List ℕ → Bool
+rises_below cells [] = true
+rises_below cells (cell ∷ row) = rises_from (cell + 1) cells row
+
 abbrev pub row_rises : ℕ → List ℕ → Bool
 row_rises cells row = rises_from 0 cells row
 

@@ -1,8 +1,7 @@
 // A layout over two lists of the caller.
-ghost use Rattle.std.specs.Prelude.{◌≡◌, ◌<◌, true, ◌∷◌, length, slice_index, nat_lt};
-ghost use Rattle.std.specs.List.{list_all};
+ghost use Rattle.std.specs.Prelude.{◌≡◌, ◌<◌, true, ◌∷◌, length, slice_index};
 ghost use Rattle.std.specs.Option.{option_map};
-ghost use Rattle.layouts.specs.Lists.{row_in, rows_of, rises, ends_rise, row_rises, rows_rise, listed_refusal, listed_cells, listed_rows};
+ghost use Rattle.layouts.specs.Lists.{row_in, rows_of, rises, rises_below, ends_rise, row_rises, rows_rise, listed_refusal, listed_cells, listed_rows};
 ghost use Rattle.layouts.specs.ListPlan.{listed_plan};
 ghost use Rattle.refusals.specs.Numbers.{number_of};
 
@@ -25,13 +24,6 @@ fn rises(numbers: &[u16]) -> bool
     numbers.is_sorted_by(|a, b| a < b)
 }
 
-// Each number is below the limit.
-fn all_below(numbers: &[u16], limit: u16) -> bool
-    ensures { result ≡ list_all (λ number. nat_lt number limit) numbers.now }
-{
-    numbers.iter().all(|&number| number < limit)
-}
-
 // The ends rise strictly from above 0 to the number of entries.
 fn ends_rise(ends: &[u16], entries: usize) -> bool
     ensures { result ≡ ends_rise ends.now entries }
@@ -40,11 +32,18 @@ fn ends_rise(ends: &[u16], entries: usize) -> bool
     ends.first() != Some(&0) && rises(ends) && usize::from(last) == entries
 }
 
-// Each cell is below the count and above the one before it.
+// Each cell after the first is below the count and above the one before it.
+fn rises_below(cells: u16, row: &[u16]) -> bool
+    ensures { result ≡ rises_below cells row.now }
+{
+    row.is_sorted_by(|a, b| a < b && *b < cells)
+}
+
+// Each cell is below the count and above the one before it: one pass, which ends at the first that is not.
 fn row_rises(cells: u16, row: &[u16]) -> bool
     ensures { result ≡ row_rises cells row.now }
 {
-    rises(row) && all_below(row, cells)
+    row.first().is_none_or(|&first| first < cells) && rises_below(cells, row)
 }
 
 // Each row rises. The rows lie one after another, so a row starts where the one before it ends.

@@ -1,6 +1,6 @@
 -- What the checks of boards leave: lengths, sizes, and cells that exist.
-use Rattle.std.proofs.Common.{◌≡◌, ℕ, suc, ◌-◌, ◌^◌, ◌<◌, ◌≤◌, true, false, eqb, List, [], ◌∷◌, length, get_or, refl, ⊎_elim, arith}
-use Rattle.std.proofs.lemmas.List.{get_or_append_left, get_or-append_right, length-append}
+use Rattle.std.proofs.Common.{◌≡◌, ℕ, suc, ◌-◌, ◌^◌, ◌<◌, ◌≤◌, true, false, eqb, List, [], ◌∷◌, length, get_or, take, drop, refl, ⊎_elim, arith}
+use Rattle.std.proofs.lemmas.List.{get_or_append_left, get_or-append_right, length-append, length-take, length-drop}
 use Rattle.std.proofs.lemmas.Bool.{cases_lt, eqb-true}
 use Rattle.layouts.specs.Plans.{Plan, edges, edge_cells, row_at}
 use Rattle.weights.specs.Kinds.{Kind}
@@ -9,6 +9,10 @@ use Rattle.weights.specs.Sizes.{beyond, Within}
 use Rattle.reader.specs.Sizes.{total_size}
 use Rattle.weights.proofs.Limits.{not_beyond}
 use Rattle.reader.proofs.Sizes.{total_bound}
+
+-- the front part of an array
+pub front_length : (n : ℕ) (xs : List ℕ) → n ≤ length xs → length (take (n - 0) (drop 0 xs)) ≡ n
+front_length n xs h = simp (length-take, length-drop) (omega arith)
 
 -- every edge's cell is below the count, where every row's cells are
 edge_below : (n : ℕ) (rows : List (List ℕ)) → ((r k : ℕ) → r < length rows → k < length (row_at rows r) → get_or (row_at rows r) k 0 < n) → (k : ℕ) → k < edges rows → get_or (edge_cells rows) k 0 < n

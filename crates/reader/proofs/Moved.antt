@@ -1,8 +1,8 @@
 -- One turn more of the passes over the edges of a round.
 use Rattle.std.specs.Prelude.{slice_range}
-use Rattle.std.proofs.Common.{◌≡◌, ℕ, zero, suc, ◌+◌, ◌-◌, ◌<◌, Bool, true, false, not, List, [], ◌∷◌, ◌++◌, length, get_or, take, drop, set, sym, refl, ap, ◌∙◌, append_assoc, arith, drop-set-lt}
+use Rattle.std.proofs.Common.{◌≡◌, ℕ, zero, suc, ◌+◌, ◌-◌, ◌<◌, Bool, true, false, not, List, [], ◌∷◌, ◌++◌, length, get_or, take, drop, set, replicate, sym, refl, ap, ◌∙◌, append_assoc, arith, drop-set-lt}
 use mathlib.Core.Bool.{beq}
-use Rattle.std.proofs.lemmas.List.{take_at, drop_at, take-append-drop, take_more_set, drop_more, drop-take, map_more, get_or-map}
+use Rattle.std.proofs.lemmas.List.{take_at, drop_at, take-append-drop, take_more_set, drop_more, drop-take, map_more, get_or-map, replicate_more}
 use Rattle.layouts.specs.Plans.{edge_cells, edges, row_at}
 use Rattle.weights.specs.Kinds.{Kind}
 use Rattle.dual.specs.Choice.{xor, odd}
@@ -52,6 +52,9 @@ module _ {W : Type 0} (k : Kind W) (step : ℕ) where
       let t = take_more_set ms i new hm in
       let j = append_assoc (take i ms) (new ∷ []) (moved_edges k step (drop (i + 1) xs) (drop (i + 1) zs) (drop (i + 1) ms)) in
       cc
+
+pub set_more : {A : Type 0} (xs : List A) (i : ℕ) (x : A) → i < length xs → take i xs ≡ replicate i x → take (i + 1) (set xs i x) ≡ replicate (i + 1) x
+set_more xs i x h e = take_more_set xs i x h ∙ ap (λ l. l ++ x ∷ []) e ∙ replicate_more i x
 
 -- ---- the cells of a row in the copy of a layout
 edge_cells_append : (xs ys : List (List ℕ)) → edge_cells (xs ++ ys) ≡ edge_cells xs ++ edge_cells ys

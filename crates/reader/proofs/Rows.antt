@@ -1,8 +1,8 @@
 -- Steps of the loops over one row's weights, by their meanings.
-use Rattle.std.proofs.Common.{◌≡◌, ℕ, ◌+◌, ◌<◌, Bool, true, false, not, leb, List, length, get_or, take, set, ℤ, pos, negsuc, ◌-ℤ◌, nat_abs, Some, None, fold, Option, sym, ap, ◌∙◌, ⊎_elim, arith}
+use Rattle.std.proofs.Common.{◌≡◌, ℕ, ◌+◌, ◌<◌, Bool, true, false, not, leb, ltb, List, length, get_or, take, set, ℤ, pos, negsuc, ◌-ℤ◌, nat_abs, Some, None, fold, Option, sym, refl, ap, ◌∙◌, ⊎_elim, arith}
 use mathlib.Core.Bool.{beq}
 use lib.Signed.{lt_z}
-use Rattle.std.proofs.lemmas.List.{length-map, get_or-map, get_or-set_same, get_or-set_other}
+use Rattle.std.proofs.lemmas.List.{length-map, length-set, get_or-map, get_or-set_same, get_or-set_other}
 use Rattle.std.proofs.lemmas.Int.{ints}
 use Rattle.std.proofs.lemmas.List.Sums.{fold_more}
 use Rattle.std.specs.Option.{option_map}
@@ -32,6 +32,17 @@ of_sign r t b e q = grind arith
 pub of_other_sign : (r t b : Bool) → r ≡ b → beq r t ≡ false → b ≡ not t
 of_other_sign r t b e q = grind arith
 
+-- absolute values of two numbers of one sign
+pub nearer_negative : (new old : ℤ) → negative new ≡ true → negative old ≡ true → lt_z old new ≡ ltb (nat_abs new) (nat_abs old)
+nearer_negative (pos n) old p q = absurd (let z : ◌≡◌ {A = ℕ} 0 1 = cc in omega arith)
+nearer_negative (negsuc n) (pos m) p q = absurd (let z : ◌≡◌ {A = ℕ} 0 1 = cc in omega arith)
+nearer_negative (negsuc n) (negsuc m) p q = grind arith
+
+pub nearer_other : (new old : ℤ) → negative new ≡ false → negative old ≡ false → lt_z new old ≡ ltb (nat_abs new) (nat_abs old)
+nearer_other (pos n) (pos m) p q = refl
+nearer_other (pos n) (negsuc m) p q = absurd (let z : ◌≡◌ {A = ℕ} 0 1 = cc in omega arith)
+nearer_other (negsuc n) old p q = absurd (let z : ◌≡◌ {A = ℕ} 0 1 = cc in omega arith)
+
 -- across the signs: a is below 0 - d exactly where d's absolute value is not at most a's
 pub across : (d a : ℤ) → negative d ≡ true → negative a ≡ false → not (lt_z a (pos 0 -ℤ d)) ≡ leb (nat_abs d) (nat_abs a)
 across (pos n) a p q = absurd (let z : ◌≡◌ {A = ℕ} 0 1 = cc in omega arith)
@@ -52,6 +63,10 @@ flipped_at (Some i) s place h = ⊎_elim
     let f = ne_eqb i place e in
     grind arith)
     (cases_eq i place)
+
+pub length_flipped : (t : Option ℕ) (s : List Bool) → length (flipped t s) ≡ length s
+length_flipped None s = refl
+length_flipped (Some i) s = length-set s i (not (get_or s i false))
 
 module _ {W : Type 0} (k : Kind W) where
   -- one place of a row's choice

@@ -3,6 +3,7 @@ use Rattle.std.proofs.Common.{◌≡◌, ℕ, ◌+◌, ◌-◌, ◌<◌, List, [
 use Rattle.std.proofs.lemmas.List.{append-nil, append_assoc, take_more, get_or_append_left, get_or-append_right}
 use Rattle.std.proofs.lemmas.Bool.{cases_lt}
 use Rattle.dual.proofs.Steps.{edges_more, edges_within}
+use Rattle.std.specs.List.{slice_range}
 use Rattle.reader.specs.Tables.{Span}
 use Rattle.reader.specs.declared.table.Row.{Row}
 use Rattle.layouts.specs.Plans.{edge_cells, edges, row_at}
@@ -20,6 +21,13 @@ span_of rows r start end h b n =
     let m = edges_more rows r h in
     let w = edges_within rows (r + 1) in
     record { begins = b; ends = omega arith; next = n; within = omega arith }
+
+-- the same edges by other names
+pub span_same : (rows : List (List ℕ)) (r start end a b : ℕ) → a ≡ start → b ≡ end → Span rows r start end → Span rows r a b
+span_same rows r start end a b e f s = subst (λ i. Span rows r i b) (sym e) (subst (λ j. Span rows r start j) (sym f) s)
+
+pub range_same : {A : Type 0} (xs : List A) (start end a b : ℕ) → a ≡ start → b ≡ end → slice_range xs start end ≡ slice_range xs a b
+range_same xs start end a b e f = ap (λ i. slice_range xs i end) (sym e) ∙ ap (slice_range xs a) (sym f)
 
 -- a span more is listed
 pub spans_more : (rows : List (List ℕ)) (list : List Row) (r : ℕ) (row : Row) → length list ≡ r → Span rows r row.start row.end

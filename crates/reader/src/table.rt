@@ -7,11 +7,11 @@ ghost use Rattle.reader.specs.Tables.{Rows};
 use arrayvec::ArrayVec;
 use layouts::{Layout, RowNo};
 
-// The edges of one row: the first, and the one behind the last.
+// The edges of one row: the first, and the one behind the last. Of two bytes each, since all rows are set up at each call.
 #[derive(Clone, Copy, Default)]
 pub(crate) struct Row {
-    pub(crate) start: usize,
-    pub(crate) end: usize,
+    pub(crate) start: u16,
+    pub(crate) end: u16,
 }
 
 impl Row {
@@ -21,7 +21,7 @@ impl Row {
         requires within { self.end ≤ length list.now }
         ensures { result.now ≡ slice_range list.now self.start self.end }
     {
-        &list[self.start..self.end]
+        &list[usize::from(self.start)..usize::from(self.end)]
     }
 }
 
@@ -57,9 +57,10 @@ impl<'a, L: Layout> Table<'a, L> {
         let mut rows = ArrayVec::new();
         // A layout is asked for its rows by number.
         for row in 0..layout.rows() {
-            let start = cells.len();
+            // narrowed by `as`: there are at most 1,024 edges
+            let start = cells.len() as u16;
             copy_row(layout, RowNo(row), &mut cells);
-            let end = cells.len();
+            let end = cells.len() as u16;
             rows.push(Row { start, end });
         }
         Table {

@@ -23,7 +23,9 @@ impl<L: Layout> Table<'_, L> {
         ensures { marks.new ≡ bytes (choices (L.plan self.now.layout.now).rows (meanings W.kind multipliers.now)) }
     {
         for row in self.rows() {
-            mark_choice(row.of(multipliers), &mut marks[row.start..row.end]);
+            let start = usize::from(row.start);
+            let end = usize::from(row.end);
+            mark_choice(row.of(multipliers), &mut marks[start..end]);
         }
     }
 

@@ -1,5 +1,5 @@
 // Our own kinds on tickets: each part is a signed number of four bytes, two's complement, high byte first.
-ghost use Rattle.std.specs.Prelude.{◌≡◌, ◌==◌, cond, length, Some, None};
+ghost use Rattle.std.specs.Prelude.{◌≡◌, ◌==◌, ◌++◌, cond, length, take, replicate, Some, None};
 ghost use Rattle.tickets.specs.Parts.{part_of};
 ghost use Rattle.tickets.specs.Kinds.{plain_codec, plain_bytes, paired_codec, paired_bytes};
 ghost use Rattle.std.proofs.Common.{rules};
@@ -16,8 +16,6 @@ fn part_of(bytes: &[u8]) -> Option<i32>
 }
 
 impl TicketWeight for Plain {
-    type Bytes = [u8; 4];
-
     ghost codec = { plain_codec };
 
     ghost meant = { Prim.search rules };
@@ -30,10 +28,13 @@ impl TicketWeight for Plain {
         4
     }
 
-    fn bytes(self) -> [u8; 4]
-        ensures { result ≡ plain_bytes self }
+    fn bytes(self) -> [u8; 64]
+        ensures front { take plain_codec.width result ≡ plain_codec.put self }
+        ensures whole { result ≡ plain_bytes self ++ replicate 60 0 }
     {
-        self.value().to_be_bytes()
+        let mut all = [0; 64];
+        all[0..4].copy_from_slice(&self.value().to_be_bytes());
+        all
     }
 
     // A number beyond the limit would be cut, and is the number of no weight.
@@ -45,8 +46,6 @@ impl TicketWeight for Plain {
 }
 
 impl TicketWeight for Paired {
-    type Bytes = [u8; 8];
-
     ghost codec = { paired_codec };
 
     ghost meant = { Prim.search rules };
@@ -59,13 +58,14 @@ impl TicketWeight for Paired {
         8
     }
 
-    fn bytes(self) -> [u8; 8]
-        ensures { result ≡ paired_bytes self }
+    fn bytes(self) -> [u8; 64]
+        ensures front { take paired_codec.width result ≡ paired_codec.put self }
+        ensures whole { result ≡ paired_bytes self ++ replicate 56 0 }
     {
-        let mut both = [0; 8];
-        both[0..4].copy_from_slice(&self.grey().to_be_bytes());
-        both[4..8].copy_from_slice(&self.dark().to_be_bytes());
-        both
+        let mut all = [0; 64];
+        all[0..4].copy_from_slice(&self.grey().to_be_bytes());
+        all[4..8].copy_from_slice(&self.dark().to_be_bytes());
+        all
     }
 
     fn from_bytes(bytes: &[u8]) -> Option<Paired> {

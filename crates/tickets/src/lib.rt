@@ -2,11 +2,10 @@
 // of which word and multipliers somebody claims that they meet.
 #![tactic(auto)]
 
-ghost use Rattle.std.specs.Prelude.{◌≡◌, Some};
+ghost use Rattle.std.specs.Prelude.{◌≡◌, take, Some};
 ghost use Rattle.std.specs.Option.{option_map};
 ghost use Rattle.tickets.specs.Codecs.{Codec};
 
-use std::convert::AsSlice;
 use weights::Weight;
 
 mod head;
@@ -30,9 +29,6 @@ pub use writer::{ticket_len, write};
 
 // A kind of weights that goes on tickets. Kind byte and width are fixed for the kind; the byte is no enum, since kinds are open.
 pub trait TicketWeight: Weight {
-    // The bytes of a weight, as many for each.
-    type Bytes: AsSlice<u8> + Copy;
-
     ghost codec: { Codec Self };
 
     fn kind_byte() -> u8
@@ -42,8 +38,10 @@ pub trait TicketWeight: Weight {
     fn width() -> u8
         ensures { result ≡ codec.width };
 
-    fn bytes(self) -> Self::Bytes
-        ensures { Self.Bytes.items result ≡ codec.put self };
+    // The bytes of this weight, at the front. An array of one length for all kinds, and no type of the kind's own, which each
+    // implementation would have to name.
+    fn bytes(self) -> [u8; 64]
+        ensures front { take codec.width result ≡ codec.put self };
 
     // The one weight whose bytes these are, or none.
     fn from_bytes(bytes: &[u8]) -> Option<Self>

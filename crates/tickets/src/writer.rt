@@ -10,7 +10,6 @@ use crate::marks::{HEAD_MARK, MULTIPLIER_MARK, WORD_MARK};
 use crate::words::{Word, packed_len};
 use layouts::Layout;
 use refusals::Refusal;
-use std::convert::AsSlice;
 use weights::{MULTIPLIER_SIZE, any_beyond};
 
 // The caller's output, and the place of the next record.
@@ -58,7 +57,8 @@ impl<'a> TicketWriter<'a> {
         ensures { Puts self.old self.new (multiplier_bytes W.codec multiplier) }
     {
         self.put(&MULTIPLIER_MARK);
-        self.put(multiplier.bytes().as_slice());
+        let bytes = multiplier.bytes();
+        self.put(&bytes[0..usize::from(W::width())]);
     }
 
     // Writes the records of all multipliers.

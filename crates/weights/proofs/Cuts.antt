@@ -1,10 +1,10 @@
 -- A sum that stays within the limit is not cut, and a cut never makes a part larger.
-use Rattle.std.proofs.Common.{◌≡◌, ℕ, ◌+◌, ◌^◌, ◌≤◌, ℤ, ◌+ℤ◌, ◌-ℤ◌, nat_abs, sym, ap, ◌∙◌, subst, arith}
+use Rattle.std.proofs.Common.{◌≡◌, ℕ, ◌+◌, ◌^◌, ◌<◌, ◌≤◌, ℤ, ◌+ℤ◌, ◌-ℤ◌, nat_abs, sym, ap, ◌∙◌, subst, arith}
 use denote.Struct.Props.{props}
 use Rattle.std.proofs.lemmas.Int.{ints, clamps}
 use Rattle.weights.specs.Kinds.{Exact}
 use Rattle.weights.specs.Paireds.{paired_kind}
-use Rattle.weights.specs.Parts.{cut, joined, Kept}
+use Rattle.weights.specs.Parts.{cut, joined, grey_cost, Kept}
 use Rattle.weights.specs.Plains.{plain_kind, cut_within}
 use Rattle.weights.specs.declared.paired.Paired.{Paired}
 use Rattle.weights.specs.declared.plain.Plain.{Plain}
@@ -53,12 +53,17 @@ joined_difference a b c d = omega (arith, ints)
 pub plain_exact : (a b r : Plain) (z : ℤ) → nat_abs z ≤ nat_abs a.value + nat_abs b.value → r.value ≡ cut (2 ^ 30) z → Exact plain_kind a b r z
 plain_exact a b r z h e = let k = kept_cut a.value b.value r.value z h e in record { value = k.exact; small = k.small }
 
+-- two parts, each kept, make a pair that is exact
+pub pair_exact : (a b r : Paired) (first second z : ℤ) → Kept a.grey b.grey r.grey first → Kept a.dark b.dark r.dark second → joined first second ≡ z → Exact paired_kind a b r z
+pair_exact a b r first second z g d e = record {
+  value = λ h. ap (λ v. joined v r.dark) (g.exact (omega arith)) ∙ ap (joined first) (d.exact (omega arith)) ∙ e;
+  small = omega (arith, g.small, d.small);
+}
+
 pub paired_exact : (a b r : Paired) (first second z : ℤ) → nat_abs first ≤ nat_abs a.grey + nat_abs b.grey → nat_abs second ≤ nat_abs a.dark + nat_abs b.dark
     → r.grey ≡ cut (2 ^ 30) first → r.dark ≡ cut (2 ^ 30) second → joined first second ≡ z → Exact paired_kind a b r z
 paired_exact a b r first second z h i e f j =
-    let g = kept_cut a.grey b.grey r.grey first h e in
-    let d = kept_cut a.dark b.dark r.dark second i f in
-    record {
-      value = λ l. ap (λ v. joined v r.dark) (g.exact (omega arith)) ∙ ap (joined first) (d.exact (omega arith)) ∙ j;
-      small = omega (arith, g.small, d.small);
-    }
+    pair_exact a b r first second z (kept_cut a.grey b.grey r.grey first h e) (kept_cut a.dark b.dark r.dark second i f) j
+
+pub grey_uncut : (grey : ℕ) → grey < 256 → cut (2 ^ 30) (grey_cost grey) ≡ grey_cost grey
+grey_uncut grey h = uncut (2 ^ 30) (grey_cost grey) (omega (arith, ints))
